@@ -1,0 +1,1 @@
+// Laws only: whole-number algebra for proofs, in specs/.

@@ -1,0 +1,31 @@
+-- Exact values: which fraction of whole numbers a float is. Definitions only. Assumes nothing.
+use mathlib.Core.Path.{_≡_}
+use mathlib.Core.Bool.{Bool, false, _&&_}
+use Prim.Native.Nat.{ℕ, _^_}
+use lib.Dec.{T}
+use lib.IntN.{ℤ, pos}
+use lib.Signed.{leZ}
+use lib.Ieee.{Float, fin, binary64, fits}
+use lib.Ieee.Exact.{HasValue}
+use lib.Ieee.Scale.{finite}
+use Rattle.algebra.specs.Sign.{signed}
+
+-- The float x is exactly z / 2 ^ k; a zero has either sign. Every finite `f64` is one for k = 1074, since the smallest is 2 ^ -1074.
+pub record Is (k : ℕ) (x : Float) (z : ℤ) : Type 0 where
+  pub sign : Bool
+  pub mag : ℕ
+  pub has : HasValue x sign mag (2 ^ k)
+  pub is : signed sign mag ≡ z
+
+-- x is a finite number of `f64`
+pub record Held (x : Float) : Type 0 where
+  pub fits : T (fits binary64 x)
+  pub finite : T (finite x)
+
+-- +0
+abbrev pub zeroᶠ : Float
+zeroᶠ = fin false 0 (pos 0)
+
+-- whether two whole numbers are equal
+abbrev pub eqZ : ℤ → ℤ → Bool
+eqZ z w = leZ z w && leZ w z

@@ -1,0 +1,3 @@
+// The number layer: what the geometry computes with besides the operators on floats.
+pub mod root;
+pub mod signs;

@@ -1,0 +1,182 @@
+// The square root and the length of a vector, of `f64`s.
+ghost use mathlib.Core.Path.{_≡_};
+ghost use mathlib.Core.Bool.{true, _&&_};
+ghost use Prim.Native.Nat.{_+_, _-_, _*_, _^_, _≤_, _<_};
+ghost use lib.Dec.{leb, ltb};
+ghost use lib.Ieee.{le, lt};
+ghost use Rattle.number.specs.Root.{rootOf, sqrtOf, Near};
+ghost use Rattle.number.specs.Hypot.{hypotOf, squareLeast, squareEnd};
+ghost use Rattle.number.specs.Signs.{absOf};
+use crate::signs::abs;
+use crate::signs::pick;
+
+// 2^-511 and 2^512.
+const SQUARE_LEAST: f64 = 1.4916681462400413e-154;
+
+const SQUARE_END: f64 = 1.3407807929942597e154;
+
+// A number of up to 106 bits: hi * 2^52 + lo.
+struct Wide {
+    hi: u64,
+    lo: u64,
+}
+
+// q * q, by halves of 26 bits.
+fn square(q: u64) -> Wide
+    requires { ⌜ q < 2 ^ 53 ⌝ }
+    ensures { λ r. ⌜ (r .hi * 2 ^ 52 + r .lo ≡ q * q) × (r .lo < 2 ^ 52) × (r .hi < 2 ^ 54) ⌝ }
+{
+    let a = q / 0x400_0000;
+    let b = q % 0x400_0000;
+    let bb = b * b;
+    let m = 2 * (a * b) + bb / 0x400_0000;
+    let hi = a * a + m / 0x400_0000;
+    let lo = m % 0x400_0000 * 0x400_0000 + bb % 0x400_0000;
+    Wide { hi: hi, lo: lo }
+}
+
+// Whether q's square is below c * 2^52 + q: whether the root is above q - 1/2.
+fn is_low(c: u64, q: u64) -> bool
+    requires { ⌜ (c < 2 ^ 54) × (q < 2 ^ 53) ⌝ }
+    ensures { λ r. ⌜ r ≡ ltb (q * q) (c * 2 ^ 52 + q) ⌝ }
+{
+    let s = square(q);
+    s.hi + (s.lo + (0x20_0000_0000_0000 - q)) / 0x10_0000_0000_0000 < c + 2
+}
+
+// Whether c * 2^52 is at most q's square and q: whether the root is below q + 1/2.
+fn is_high(c: u64, q: u64) -> bool
+    requires { ⌜ (c < 2 ^ 54) × (q < 2 ^ 53) ⌝ }
+    ensures { λ r. ⌜ r ≡ leb (c * 2 ^ 52) (q * q + q) ⌝ }
+{
+    let s = square(q);
+    c <= s.hi + (s.lo + q) / 0x10_0000_0000_0000
+}
+
+fn is_root(c: u64, q: u64) -> bool
+    requires { ⌜ (c < 2 ^ 54) × (q < 2 ^ 53) ⌝ }
+    ensures { λ r. ⌜ (r ≡ true → Near c q) ⌝ }
+{
+    is_low(c, q) && is_high(c, q)
+}
+
+// The nearest root by bisection: 52 turns.
+fn bisect(c: u64) -> u64
+    requires { ⌜ (2 ^ 52 ≤ c) × (c ≤ 2 ^ 54 - 2) ⌝ }
+    ensures { λ r. ⌜ Near c r ⌝ }
+{
+    let mut lo: u64 = 0x10_0000_0000_0000;
+    let mut hi: u64 = 0x20_0000_0000_0000;
+    while hi - lo > 1 {
+        let mid = lo + (hi - lo) / 2;
+        if is_low(c, mid) {
+            lo = mid;
+        } else {
+            hi = mid;
+        }
+    }
+    lo
+}
+
+// A guess at the nearest root of c * (1 + p) * 2^52: the root of the number z from 1 to 4 whose digits c
+// has. The bit trick for 1 / √z and two steps of Newton's method give the root's upper 26 digits u, whose
+// square is exact; while z - u * u is worked out a third step gives the divisor for the rest. Nothing is
+// claimed of the guess but its range.
+fn guess(c: u64, p: u64) -> u64
+    requires { ⌜ (2 ^ 52 ≤ c) × (c < 2 ^ 53) × (p < 2) ⌝ }
+    ensures { λ r. ⌜ (2 ^ 52 ≤ r) × (r < 2 ^ 53) ⌝ }
+{
+    let i = (1022 + p) * 0x10_0000_0000_0000 + c;
+    let z = f64::from_bits(i);
+    let y0 = f64::from_bits(0x5fe6_ed21_02dc_bfda - i / 2);
+    let h = z * 0.5;
+    let y1 = 1.50087895511633457 * y0 - h * y0 * (y0 * y0);
+    let y2 = 1.50000057967625766 * y1 - h * y1 * (y1 * y1);
+    let s = z * y2;
+    if s >= 0.5 {
+        let b = f64::to_bits(s) % 0x4000_0000_0000_0000;
+        let u = f64::from_bits(b - b % 0x800_0000);
+        let y = 1.5 * y2 - h * y2 * (y2 * y2);
+        let k = 0.5 * y;
+        let g = u + (z - u * u) * (k + (z * y - u) * (k * k));
+        if g >= 2.0 {
+            return 0x1f_ffff_ffff_ffff;
+        }
+        if g >= 1.0 {
+            return f64::to_bits(g) % 0x10_0000_0000_0000 + 0x10_0000_0000_0000;
+        }
+    }
+    0x10_0000_0000_0000
+}
+
+// The whole number nearest to the root of c * (1 + p) * 2^52. A guess that a check proves, or else
+// a neighbour of it that does, or else by bisection.
+fn nearest_root(c: u64, p: u64) -> u64
+    requires { ⌜ (2 ^ 52 ≤ c) × (c < 2 ^ 53) × (p < 2) ⌝ }
+    ensures { λ r. ⌜ Near (c * (1 + p)) r ⌝ }
+{
+    let d = c * (1 + p);
+    let q = guess(c, p);
+    if is_root(d, q) {
+        return q;
+    }
+    if q < 0x1f_ffff_ffff_ffff {
+        if is_root(d, q + 1) {
+            return q + 1;
+        }
+    }
+    if is_root(d, q - 1) {
+        return q - 1;
+    }
+    bisect(d)
+}
+
+// The root of c * 2^(w + 52) / 2^1200, rounded once.
+fn root_of(c: u64, w: u64) -> f64
+    requires { ⌜ (2 ^ 52 ≤ c) × (c < 2 ^ 53) × (2 ≤ w) × (w ≤ 2119) ⌝ }
+    ensures { λ r. ⌜ r ≡ rootOf (c * 2 ^ (w + 52)) ⌝ }
+{
+    let q = nearest_root(c, w % 2);
+    f64::from_bits((w / 2 + 474) * 0x10_0000_0000_0000 + q)
+}
+
+// The double nearest to the exact root.
+pub fn sqrt(x: f64) -> f64
+    ensures { λ r. ⌜ r ≡ sqrtOf x ⌝ }
+{
+    if x > 0.0 {
+        if x < 1.0 / 0.0 {
+            let b = f64::to_bits(x);
+            let e = b / 0x10_0000_0000_0000;
+            let t = b % 0x10_0000_0000_0000;
+            if e == 0 {
+                let l = (u64::leading_zeros(t) - 11) as u64;
+                return root_of(t << l, 74 - l);
+            }
+            return root_of(t + 0x10_0000_0000_0000, e + 73);
+        }
+        return x;
+    }
+    pick(x == 0.0, x, 0.0 / 0.0)
+}
+
+// Whether the square of x neither underflows nor overflows.
+fn squares(x: f64) -> bool
+    ensures { λ r. ⌜ r ≡ (le squareLeast (absOf x) && lt (absOf x) squareEnd) ⌝ }
+{
+    let m = abs(x);
+    (SQUARE_LEAST <= m) & (m < SQUARE_END)
+}
+
+// The length of (a, b). Along an axis it needs no root.
+pub fn hypot(a: f64, b: f64) -> f64
+    ensures { λ r. ⌜ r ≡ hypotOf a b ⌝ }
+{
+    if b == 0.0 && squares(a) {
+        return abs(a);
+    }
+    if a == 0.0 && squares(b) {
+        return abs(b);
+    }
+    sqrt(a * a + b * b)
+}

@@ -1,0 +1,38 @@
+-- `replay::floats::print` is safe: what equals itself is no NaN, so its bits can be read. Assumes nothing.
+use borrow.Author.Needs.{needs}
+use Rattle.replay.proofs.Nan.{same-not-nan}
+use Rattle.replay.proofs.floats.print.Statement.{statement}
+use Rattle.replay.proofs.floats.print.Tie as tie
+
+float-to-bits-print-hex : tie.Need-float-to-bits-print-hex
+float-to-bits-print-hex c = same-not-nan _ (c .if1 .taken)
+
+print-hex-requires : tie.Need-print-hex-requires
+print-hex-requires c κs = search needs
+
+slice-aggregate-write-all : tie.Need-slice-aggregate-write-all
+slice-aggregate-write-all c = search needs
+
+write-all-requires : tie.Need-write-all-requires
+write-all-requires c κs = search needs
+
+slice-aggregate-write-all-2 : tie.Need-slice-aggregate-write-all-2
+slice-aggregate-write-all-2 c = search needs
+
+write-all-requires-2 : tie.Need-write-all-requires-2
+write-all-requires-2 c κs = search needs
+
+returns : tie.Need-returns
+returns c = search needs
+
+pub print-spec : {M : Type 1} → statement M
+print-spec =
+    tie.close
+    (tie.spec
+    float-to-bits-print-hex
+    print-hex-requires
+    slice-aggregate-write-all
+    write-all-requires
+    slice-aggregate-write-all-2
+    write-all-requires-2
+    returns)
