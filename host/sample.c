@@ -13,8 +13,106 @@ static void numbers(void)
     printf("The length of (1, 1) is %.17g.\n", vk_hypot(1.0, 1.0));
 }
 
+#define LENGTH(list) (sizeof(list) / sizeof(list)[0])
+
+/* What the numbers that a call returns say. */
+static const char *reason(uint32_t number)
+{
+    switch (number) {
+    case 0: return "accepted";
+    case 1: return "an odd count of numbers";
+    case 3: return "fewer than three vertices";
+    case 4: return "more than 4,096 vertices";
+    case 5: return "a number that is not finite";
+    case 6: return "a number outside the field";
+    case 7: return "two equal neighbours";
+    case 8: return "no area";
+    case 9: return "a negative area";
+    case 10: return "a point outside the field";
+    case 13: return "a lent list that is too short";
+    default: return "?";
+    }
+}
+
+static void measures(const char *name, const double *vertices, size_t len)
+{
+    double area, perimeter, min_x, min_y, max_x, max_y;
+    uint32_t number = vk_outline_area(vertices, len, &area);
+    if (number != 0) {
+        printf("%s is turned away, number %u: %s.\n", name, (unsigned)number, reason(number));
+        return;
+    }
+    printf("%s has the area %.17g", name, area);
+    if (vk_outline_perimeter(vertices, len, &perimeter) == 0)
+        printf(", the perimeter %.17g", perimeter);
+    if (vk_outline_bounds(vertices, len, &min_x, &min_y, &max_x, &max_y) == 0)
+        printf(" and the box from (%g, %g) to (%g, %g)", min_x, min_y, max_x, max_y);
+    printf(".\n");
+}
+
+static void point(const char *name, const double *vertices, size_t len, double x, double y)
+{
+    static const char *const places[] = { "outside", "on the boundary of", "inside" };
+    uint32_t inside, location;
+    uint32_t number = vk_outline_contains(vertices, len, x, y, &inside);
+    if (number != 0) {
+        printf("(%g, %g) is turned away, number %u: %s.\n", x, y, (unsigned)number, reason(number));
+        return;
+    }
+    if (vk_outline_locate(vertices, len, x, y, &location) == 0)
+        printf("(%g, %g) is %s %s, which %s it.\n", x, y, places[location], name,
+               inside ? "contains" : "does not contain");
+}
+
+static void make(const char *name, const double *vertices, size_t len)
+{
+    double made[16];
+    uint32_t count, i;
+    uint32_t number = vk_outline_make(vertices, len, made, LENGTH(made), &count);
+    if (number != 0) {
+        printf("%s cannot be made, number %u: %s.\n", name, (unsigned)number, reason(number));
+        return;
+    }
+    printf("%s is made into", name);
+    for (i = 0; i < count; i++)
+        printf(" (%g, %g)", made[2 * i], made[2 * i + 1]);
+    printf(".\n");
+}
+
+static void outlines(void)
+{
+    static const double square[] = { 0, 0, 4, 0, 4, 4, 0, 4 };
+    static const double turned[] = { 0, 0, 0, 4, 4, 4, 4, 0 };
+    static const double closed[] = { 0, 0, 4, 0, 4, 4, 0, 4, 0, 0 };
+    static const double flat[] = { 0, 0, 1, 0, 2, 0 };
+    static const double crossed[] = { 0, 0, 2, 2, 2, 0, 0, 2 };
+    static const double far_off[] = { 0, 0, 1048577, 0, 0, 4 };
+    static const double arrow[] = { 0, 0, 6, 3, 0, 6, 2, 3 };
+
+    measures("The square", square, LENGTH(square));
+    measures("The arrow", arrow, LENGTH(arrow));
+    measures("The square gone round the other way", turned, LENGTH(turned));
+    measures("A flat triangle", flat, LENGTH(flat));
+    measures("A bow tie", crossed, LENGTH(crossed));
+    measures("A triangle that reaches too far", far_off, LENGTH(far_off));
+    measures("Nothing", NULL, 0);
+    point("the square", square, LENGTH(square), 2, 2);
+    point("the square", square, LENGTH(square), 4, 2);
+    point("the square", square, LENGTH(square), 0, 2);
+    point("the square", square, LENGTH(square), 2, 0);
+    point("the square", square, LENGTH(square), 2, 4);
+    point("the square", square, LENGTH(square), 6, 2);
+    point("the square", square, LENGTH(square), 2097152, 2);
+    point("the arrow", arrow, LENGTH(arrow), 1, 3);
+    point("the arrow", arrow, LENGTH(arrow), 4, 3);
+    make("The square gone round the other way", turned, LENGTH(turned));
+    make("The square with its first vertex again at the end", closed, LENGTH(closed));
+    make("A list of five numbers", square, 5);
+}
+
 int main(void)
 {
     numbers();
+    outlines();
     return 0;
 }

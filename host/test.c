@@ -1,9 +1,11 @@
 /*
  * Tests the library through its header: fixed inputs, special ones among them,
- * with the answers compared by bit pattern. Exits with 1 on a wrong answer.
+ * with the answers compared by bit pattern, and what the library is lent
+ * compared with what it must hold afterwards. Exits with 1 on a wrong answer.
  * Compiles as C89, as later C and as C++.
  */
 #include <stdio.h>
+#include <stdlib.h>
 #include <string.h>
 #include <stdint.h>
 #include <stddef.h>
@@ -114,9 +116,364 @@ static void numbers(void)
     }
 }
 
+/*
+ * Outlines. Each list is lent from the middle of a larger one, whose other
+ * places must stay as they are.
+ */
+
+#define GUARD 4
+#define MOST 8200
+
+/* What stands in answer fields and lent places before a call. */
+static const bits stale = { 0xdeadbeef, 0xdeadbeef };
+static const uint32_t stale_word = 0xdeadbeef;
+
+static const bits infinity = { 0x7ff00000, 0 };
+static const bits not_a_number = { 0x7ff80000, 0 };
+static const bits past_field_end = { 0x41300000, 0x00000001 }; /* the next double */
+
+static double lent_space[MOST + 2 * GUARD], made_space[MOST + 2 * GUARD];
+
+static void expect_word(const char *call, int line, uint32_t got, uint32_t want)
+{
+    checks++;
+    if (got == want)
+        return;
+    failures++;
+    printf("%s, case %d: got %lu, expected %lu\n", call, line, (unsigned long)got, (unsigned long)want);
+}
+
+static int same_bits(double a, double b)
+{
+    return memcmp(&a, &b, sizeof a) == 0;
+}
+
+static double *blank(double *space)
+{
+    size_t i;
+    for (i = 0; i < MOST + 2 * GUARD; i++)
+        space[i] = from_bits(stale);
+    return space + GUARD;
+}
+
+/* A lent copy of a list; NULL for an empty one. */
+static const double *lend(const double *list, size_t len)
+{
+    double *lent = blank(lent_space);
+    size_t i;
+    for (i = 0; i < len; i++)
+        lent[i] = list[i];
+    return len == 0 ? (const double *)0 : lent;
+}
+
+/* The space holds the list and nothing else has been written to it. */
+static void expect_space(const char *call, int line, const double *space, const double *list, size_t len)
+{
+    size_t i;
+    checks++;
+    for (i = 0; i < MOST + 2 * GUARD; i++) {
+        double want = i >= GUARD && i - GUARD < len ? list[i - GUARD] : from_bits(stale);
+        if (!same_bits(space[i], want)) {
+            failures++;
+            printf("%s, case %d: place %ld of a lent list is wrong\n", call, line, (long)i - GUARD);
+            return;
+        }
+    }
+}
+
+/* Area, perimeter and bounds, or the refusal of each. */
+typedef struct { double area, perimeter, min_x, min_y, max_x, max_y; } measures;
+
+static const measures no_measures = { 0, 0, 0, 0, 0, 0 };
+
+static void test_measures(int line, const double *list, size_t len, uint32_t number, measures want)
+{
+    double area = from_bits(stale), perimeter = area, box[4];
+    const double *lent;
+    box[0] = box[1] = box[2] = box[3] = area;
+
+    lent = lend(list, len);
+    expect_word("vk_outline_area", line, vk_outline_area(lent, len, &area), number);
+    expect("vk_outline_area", line, area, to_bits(want.area));
+    expect_space("vk_outline_area", line, lent_space, list, len);
+
+    lent = lend(list, len);
+    expect_word("vk_outline_perimeter", line, vk_outline_perimeter(lent, len, &perimeter), number);
+    expect("vk_outline_perimeter", line, perimeter, to_bits(want.perimeter));
+    expect_space("vk_outline_perimeter", line, lent_space, list, len);
+
+    lent = lend(list, len);
+    expect_word("vk_outline_bounds", line, vk_outline_bounds(lent, len, &box[0], &box[1], &box[2], &box[3]), number);
+    expect("vk_outline_bounds, min x", line, box[0], to_bits(want.min_x));
+    expect("vk_outline_bounds, min y", line, box[1], to_bits(want.min_y));
+    expect("vk_outline_bounds, max x", line, box[2], to_bits(want.max_x));
+    expect("vk_outline_bounds, max y", line, box[3], to_bits(want.max_y));
+    expect_space("vk_outline_bounds", line, lent_space, list, len);
+}
+
+static void test_point(int line, const double *list, size_t len, double x, double y,
+                       uint32_t number, uint32_t inside, uint32_t location)
+{
+    uint32_t told = stale_word;
+    const double *lent = lend(list, len);
+    expect_word("vk_outline_contains", line, vk_outline_contains(lent, len, x, y, &told), number);
+    expect_word("vk_outline_contains, inside", line, told, inside);
+    expect_space("vk_outline_contains", line, lent_space, list, len);
+
+    told = stale_word;
+    lent = lend(list, len);
+    expect_word("vk_outline_locate", line, vk_outline_locate(lent, len, x, y, &told), number);
+    expect_word("vk_outline_locate, location", line, told, location);
+    expect_space("vk_outline_locate", line, lent_space, list, len);
+}
+
+/* Making into `room` places: `made` is what the first 2 * count of them must hold. */
+static void test_make(int line, const double *list, size_t len, size_t room,
+                      uint32_t number, uint32_t count, const double *made)
+{
+    uint32_t told = stale_word;
+    const double *lent = lend(list, len);
+    double *space = blank(made_space);
+    expect_word("vk_outline_make", line,
+                vk_outline_make(lent, len, room == 0 ? (double *)0 : space, room, &told), number);
+    expect_word("vk_outline_make, count", line, told, count);
+    expect_space("vk_outline_make", line, lent_space, list, len);
+    expect_space("vk_outline_make, made", line, made_space, made, 2 * (size_t)count);
+}
+
+static const double square[] = { 0, 0, 4, 0, 4, 4, 0, 4 };
+static const double turned[] = { 0, 0, 0, 4, 4, 4, 4, 0 };
+static const double turned_made[] = { 4, 0, 4, 4, 0, 4, 0, 0 };
+static const double closed[] = { 0, 0, 4, 0, 4, 4, 0, 4, 0, 0 };
+static const double closed_twice[] = { 0, 0, 4, 0, 4, 4, 0, 4, 0, 0, 0, 0 };
+static const double closed_pair[] = { 0, 0, 4, 0, 0, 0 };
+static const double triangle[] = { -1.5, 0.25, 2.5, 3.25, -5.5, 3.25 };
+static const double flat[] = { 0, 0, 1, 0, 2, 0 };
+static const double bow_tie[] = { 0, 0, 2, 2, 2, 0, 0, 2 };
+static const double equal[] = { 0, 0, 4, 0, 4, 0, 4, 4 };
+static const double round_twice[] = { 0, 0, 4, 0, 4, 4, 0, 4, 0, 0, 4, 0, 4, 4, 0, 4 };
+static const double largest[] = { -1048576, -1048576, 1048576, -1048576, 1048576, 1048576, -1048576, 1048576 };
+static const double tenths[] = { 0, 0.1, 0.1, 0.2, 0.3, 0, 0.1, 0.2 };
+static const double tenths_made[] = { 0.1, 0.2, 0.3, 0, 0.1, 0.2, 0, 0.1 };
+
+#define LIST(list) list, (size_t)COUNT(list)
+
+static void outline_measures(void)
+{
+    static const measures of_square = { 16, 16, 0, 0, 4, 4 };
+    static const measures of_triangle = { 12, 18, -5.5, 0.25, 2.5, 3.25 };
+    static const measures of_round_twice = { 32, 32, 0, 0, 4, 4 };
+    static const measures of_largest = { 4398046511104.0, 8388608, -1048576, -1048576, 1048576, 1048576 };
+    measures signed_zero = of_square;
+    double list[8];
+    int i;
+
+    test_measures(0, LIST(square), 0, of_square);
+    test_measures(1, LIST(triangle), 0, of_triangle);
+    test_measures(2, LIST(round_twice), 0, of_round_twice);
+    test_measures(3, LIST(largest), 0, of_largest);
+    test_measures(4, (const double *)0, 0, 3, no_measures);
+    test_measures(5, square, 1, 1, no_measures);
+    test_measures(6, square, 7, 1, no_measures);
+    test_measures(7, square, 4, 3, no_measures);
+    test_measures(8, LIST(closed), 7, no_measures);
+    test_measures(9, LIST(equal), 7, no_measures);
+    test_measures(10, LIST(flat), 8, no_measures);
+    test_measures(11, LIST(bow_tie), 8, no_measures);
+    test_measures(12, LIST(turned), 9, no_measures);
+    /* one number of the square damaged, each place in turn */
+    for (i = 0; i < 8; i++) {
+        memcpy(list, square, sizeof list);
+        list[i] = from_bits(not_a_number);
+        test_measures(100 + i, LIST(list), 5, no_measures);
+        list[i] = from_bits(infinity);
+        test_measures(200 + i, LIST(list), 5, no_measures);
+        list[i] = -from_bits(infinity);
+        test_measures(300 + i, LIST(list), 5, no_measures);
+        list[i] = from_bits(past_field_end);
+        test_measures(400 + i, LIST(list), 6, no_measures);
+        list[i] = -from_bits(past_field_end);
+        test_measures(500 + i, LIST(list), 6, no_measures);
+        /* a test runs over the whole outline before the next */
+        list[(i + 3) % 8] = from_bits(not_a_number);
+        test_measures(600 + i, LIST(list), 5, no_measures);
+    }
+    /* a bound that is zero has the sign of the first vertex that has it */
+    memcpy(list, square, sizeof list);
+    list[0] = -list[0];
+    signed_zero.min_x = -signed_zero.min_x;
+    test_measures(13, LIST(list), 0, signed_zero);
+    list[0] = -list[0];
+    list[6] = -list[6];
+    test_measures(14, LIST(list), 0, of_square);
+}
+
+static void outline_points(void)
+{
+    static const struct { double x, y; uint32_t inside, location; } cases[] = {
+        { 2, 2, 1, 2 }, { 1, 3, 1, 2 }, { 6, 2, 0, 0 }, { -1, 2, 0, 0 }, { 2, 5, 0, 0 }, { 2, -1, 0, 0 },
+        { 4, 2, 0, 1 }, { 0, 2, 1, 1 }, { 2, 0, 1, 1 }, { 2, 4, 0, 1 },
+        { 0, 0, 1, 1 }, { 4, 0, 0, 1 }, { 4, 4, 0, 1 }, { 0, 4, 0, 1 },
+        { 1048576, 1048576, 0, 0 }, { -1048576, 2, 0, 0 }
+    };
+    double bad[4];
+    int i;
+    for (i = 0; i < COUNT(cases); i++)
+        test_point(i, LIST(square), cases[i].x, cases[i].y, 0, cases[i].inside, cases[i].location);
+    /* parity: what is gone round twice contains nothing, but has its boundary */
+    test_point(20, LIST(round_twice), 2, 2, 0, 0, 0);
+    test_point(21, LIST(round_twice), 0, 2, 0, 0, 1);
+    test_point(22, LIST(triangle), -1.5, 1, 0, 1, 2);
+    /* the outline's refusals come before the point's */
+    bad[0] = from_bits(not_a_number);
+    bad[1] = from_bits(infinity);
+    bad[2] = from_bits(past_field_end);
+    bad[3] = -from_bits(past_field_end);
+    for (i = 0; i < 4; i++) {
+        test_point(100 + i, LIST(square), bad[i], 2, 10, 0, 0);
+        test_point(110 + i, LIST(square), 2, bad[i], 10, 0, 0);
+        test_point(120 + i, LIST(turned), bad[i], 2, 9, 0, 0);
+        test_point(130 + i, (const double *)0, 0, bad[i], bad[i], 3, 0, 0);
+    }
+    test_point(140, LIST(flat), 2, 2, 8, 0, 0);
+    test_point(141, LIST(closed), 2, 2, 7, 0, 0);
+    test_point(142, square, 5, 2, 2, 1, 0, 0);
+}
+
+static void outline_making(void)
+{
+    double list[8];
+    test_make(0, LIST(square), 8, 0, 4, square);
+    test_make(1, LIST(square), 20, 0, 4, square);
+    test_make(2, LIST(turned), 8, 0, 4, turned_made);
+    test_make(3, LIST(closed), 10, 0, 4, square);
+    test_make(4, LIST(largest), 9, 0, 4, largest);
+    test_make(5, LIST(tenths), 8, 0, 4, tenths_made);
+    test_make(6, LIST(square), 7, 13, 0, square);
+    test_make(7, LIST(square), 0, 13, 0, square);
+    /* room for the input, though the closing vertex is dropped */
+    test_make(8, LIST(closed), 8, 13, 0, square);
+    test_make(9, LIST(closed), 9, 13, 0, square);
+    test_make(10, LIST(closed_twice), 12, 7, 0, square);
+    test_make(11, LIST(closed_pair), 6, 3, 0, square);
+    test_make(12, LIST(flat), 6, 8, 0, square);
+    /* 13 comes last */
+    test_make(13, LIST(flat), 0, 8, 0, square);
+    test_make(14, LIST(bow_tie), 8, 8, 0, square);
+    test_make(15, square, 5, 8, 1, 0, square);
+    test_make(16, square, 4, 8, 3, 0, square);
+    test_make(17, (const double *)0, 0, 8, 3, 0, square);
+    test_make(18, (const double *)0, 0, 0, 3, 0, square);
+    test_make(19, LIST(equal), 8, 7, 0, square);
+    memcpy(list, square, sizeof list);
+    list[5] = from_bits(not_a_number);
+    test_make(20, LIST(list), 8, 5, 0, square);
+    list[5] = from_bits(past_field_end);
+    test_make(21, LIST(list), 8, 6, 0, square);
+    /* numbers are copied with the signs of their zeros */
+    memcpy(list, square, sizeof list);
+    list[1] = -list[1];
+    test_make(22, LIST(list), 8, 0, 4, list);
+    /* off the grid, making may leave what a query turns away */
+    test_measures(23, LIST(tenths), 9, no_measures);
+    test_measures(24, LIST(tenths_made), 8, no_measures);
+}
+
+/* n vertices: n - 1 of them along a line, and one above the first; and the first again. */
+static void comb(double *list, int n)
+{
+    int i;
+    for (i = 0; i < n - 1; i++) {
+        list[2 * i] = i;
+        list[2 * i + 1] = 0;
+    }
+    list[2 * n - 2] = 0;
+    list[2 * n - 1] = 1;
+    list[2 * n] = list[0];
+    list[2 * n + 1] = list[1];
+}
+
+static void outline_sizes(void)
+{
+    static double list[MOST];
+    measures want = { 2047, 0, 0, 0, 4094, 1 };
+    int i;
+    comb(list, 4096);
+    for (i = 0; i < 4096; i++)
+        want.perimeter += vk_hypot(list[2 * i + 2] - list[2 * i], list[2 * i + 3] - list[2 * i + 1]);
+    test_measures(0, list, 8192, 0, want);
+    test_point(0, list, 8192, 1, 0.5, 0, 1, 2);
+    test_point(1, list, 8192, 4093, 0.5, 0, 0, 0);
+    test_point(2, list, 8192, 4093, 0, 0, 1, 1);
+    test_make(0, list, 8192, 8192, 0, 4096, list);
+    /* with the first vertex again at the end: no query takes it, and making drops it */
+    test_measures(1, list, 8194, 4, no_measures);
+    test_make(1, list, 8194, 8194, 0, 4096, list);
+    test_make(2, list, 8194, 8193, 13, 0, list);
+    comb(list, 4097);
+    test_measures(2, list, 8194, 4, no_measures);
+    test_measures(3, list, 8193, 1, no_measures);
+    test_point(3, list, 8194, 1, 0.5, 4, 0, 0);
+    test_make(3, list, 8194, 8194, 4, 0, list);
+    test_make(4, list, 8196, 8196, 4, 0, list);
+    /* too many comes before what the numbers are */
+    list[0] = from_bits(not_a_number);
+    test_measures(4, list, 8194, 4, no_measures);
+    test_measures(5, list, 8192, 5, no_measures);
+    test_measures(6, list, 0, 3, no_measures);
+}
+
+/*
+ * Lists of exactly the lengths that are told, from the heap, and answer fields
+ * that hold nothing yet: valgrind sees a read or write past them, and a
+ * decision on what was never written.
+ */
+static void exact_memory(int line, const double *list, size_t len, uint32_t count)
+{
+    double *vertices = (double *)malloc(len * sizeof *vertices);
+    double *made = (double *)malloc(len * sizeof *made);
+    double area, perimeter, min_x, min_y, max_x, max_y;
+    uint32_t inside, location, told;
+    if (vertices == NULL || made == NULL) {
+        printf("no memory\n");
+        exit(2);
+    }
+    memcpy(vertices, list, len * sizeof *vertices);
+    expect_word("vk_outline_area", line, vk_outline_area(vertices, len, &area), 0);
+    expect_word("vk_outline_perimeter", line, vk_outline_perimeter(vertices, len, &perimeter), 0);
+    expect_word("vk_outline_bounds", line, vk_outline_bounds(vertices, len, &min_x, &min_y, &max_x, &max_y), 0);
+    expect_word("vk_outline_contains", line, vk_outline_contains(vertices, len, max_x, min_y, &inside), 0);
+    expect_word("vk_outline_locate", line, vk_outline_locate(vertices, len, min_x, max_y, &location), 0);
+    expect_word("vk_outline_make", line, vk_outline_make(vertices, len, made, len, &told), 0);
+    expect_word("vk_outline_make, count", line, told, count);
+    checks++;
+    if (!(area > 0 && perimeter > 0 && min_x < max_x && min_y < max_y && inside <= 1 && location <= 2)
+        || memcmp(made, list, 2 * count * sizeof *made) != 0) {
+        failures++;
+        printf("exact memory, case %d: a wrong answer\n", line);
+    }
+    free(made);
+    free(vertices);
+}
+
+static void outline_memory(void)
+{
+    static double list[MOST];
+    comb(list, 4096);
+    exact_memory(0, LIST(square), 4);
+    exact_memory(1, LIST(triangle), 3);
+    exact_memory(2, LIST(round_twice), 8);
+    exact_memory(3, list, 8192, 4096);
+}
+
 int main(void)
 {
     numbers();
+    outline_measures();
+    outline_points();
+    outline_making();
+    outline_sizes();
+    outline_memory();
     printf("%lu answers compared, %lu wrong\n", checks, failures);
     return failures != 0;
 }

@@ -14,6 +14,9 @@
 #ifndef VISKUNOR_H
 #define VISKUNOR_H
 
+#include <stddef.h>
+#include <stdint.h>
+
 #ifdef __cplusplus
 extern "C" {
 #endif
@@ -40,6 +43,106 @@ double vk_sqrt(double x);
  *   NaN in either argument gives NaN, beside an infinity too.
  */
 double vk_hypot(double a, double b);
+
+/*
+ * Outlines.
+ *
+ * An outline is a list of vertices in order, two numbers each, x then y, in
+ * micrometres. An edge joins each vertex to the next, and the last to the
+ * first; the first is not repeated at the end. A list goes in as a pointer and
+ * its length, which counts numbers, not vertices.
+ *
+ * The field is every finite number of magnitude at most 1,048,576. An outline
+ * has 3 to 4,096 vertices, which lie in the field; its area is positive, so its
+ * vertices run counterclockwise. It may cross itself. vk_outline_make turns a
+ * list that runs the other way, or that repeats its first vertex at the end,
+ * into an outline.
+ *
+ * Each call returns 0 where it is accepted, and the number of its refusal
+ * otherwise. The tests are made in the order of their numbers, each over the
+ * whole outline before the next; a call skips the tests about things that it
+ * does not take.
+ *
+ *    1  the list has an odd count of numbers
+ *    3  the outline has fewer than three vertices
+ *    4  it has more than 4,096 vertices
+ *    5  a number of it is not finite (NaN or an infinity)
+ *    6  a number of it is outside the field
+ *    7  two neighbouring vertices are equal, last and first included; zeros of
+ *       either sign are equal
+ *    8  the area works out to zero
+ *    9  the area is negative
+ *   10  a number of the point is outside the field or not finite
+ *   13  a lent list is shorter than it must be
+ *
+ * The answer fields, the last parameters, point to one number each. A refused
+ * call writes zero (+0) to every answer field and leaves every list as it was.
+ * No call changes the outline that it is lent. A pointer may be NULL where its
+ * length is 0, and only there. No two of the things that a call is lent may
+ * overlap.
+ */
+
+/*
+ * Makes an outline from a list of vertices: drops one closing vertex that
+ * equals the first, tests the others, and reverses their order where the area
+ * is negative. The numbers themselves are copied as they are.
+ *   refusals: 1, 3 to 8, 13. Tests 3 and 4 count the vertices without the
+ *     closing one. 13: made_len is below vertices_len (even where a closing
+ *     vertex is dropped).
+ *   made: gets the outline's numbers, two for each vertex; its places past
+ *     those stay as they were.
+ *   count: the number of vertices of the outline made.
+ * The area is tested before the order is reversed. Where vertices are off the
+ * grid (whole multiples of 1/1,024 within 1,024 of zero) and the exact area is
+ * zero or nearly so, rounding can leave a reversed outline whose area works out
+ * to zero or negative; the calls below then turn it away with 8 or 9.
+ */
+uint32_t vk_outline_make(const double *vertices, size_t vertices_len,
+                         double *made, size_t made_len, uint32_t *count);
+
+/*
+ * The area: half the sum, from the first edge to the last, of ax * by - bx * ay
+ * over the edges from (ax, ay) to (bx, by), each operation rounded once.
+ *   refusals: 1, 3 to 9.
+ */
+uint32_t vk_outline_area(const double *vertices, size_t vertices_len, double *area);
+
+/*
+ * The perimeter: the sum, from the first edge to the last, of
+ * vk_hypot(bx - ax, by - ay), each operation rounded once.
+ *   refusals: 1, 3 to 9.
+ */
+uint32_t vk_outline_perimeter(const double *vertices, size_t vertices_len, double *perimeter);
+
+/*
+ * The smallest box that holds every vertex. A bound that is zero has the sign
+ * of the first vertex that has it.
+ *   refusals: 1, 3 to 9.
+ */
+uint32_t vk_outline_bounds(const double *vertices, size_t vertices_len,
+                           double *min_x, double *min_y, double *max_x, double *max_y);
+
+/*
+ * Whether the outline contains the point (x, y): inside is 1 where an odd
+ * number of edges count, and 0 otherwise. An edge counts where exactly one of
+ * its ends has its y above the point's and the point's x is below the crossing
+ * of the edge with the horizontal through the point. A point on an edge may be
+ * told either way; vk_outline_locate tells it apart.
+ *   refusals: 1, 3 to 10.
+ */
+uint32_t vk_outline_contains(const double *vertices, size_t vertices_len,
+                             double x, double y, uint32_t *inside);
+
+/*
+ * Where the point (x, y) lies: location is 0 outside, 1 on the boundary, 2
+ * inside. The boundary is tested first: the point is on an edge where it lies
+ * in the box of the edge's ends and the cross product of the edge and the way
+ * from its start to the point works out to zero. Any other point is inside
+ * where vk_outline_contains says 1.
+ *   refusals: 1, 3 to 10.
+ */
+uint32_t vk_outline_locate(const double *vertices, size_t vertices_len,
+                           double x, double y, uint32_t *location);
 
 #ifdef __cplusplus
 }

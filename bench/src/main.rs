@@ -11,6 +11,7 @@ mod library;
 mod numbers;
 #[path = "../../oracle/src/original.rs"]
 mod original;
+mod outlines;
 #[path = "../../oracle/src/random.rs"]
 mod random;
 #[path = "../../oracle/src/standins.rs"]
@@ -21,5 +22,6 @@ fn main() {
     original::self_check();
     let mut table = table::Table::new();
     numbers::rows(&mut table);
+    outlines::rows(&mut table);
     table.print();
 }

@@ -4,21 +4,41 @@ use std::time::Instant;
 const REPETITIONS: u32 = 25;
 const SECONDS: f64 = 0.004;
 
-/// The least time of one call of `work`, in ns.
-pub fn time(mut work: impl FnMut()) -> f64 {
-    let mut measure = |times: u64| {
-        let start = Instant::now();
-        (0..times).for_each(|_| work());
-        start.elapsed().as_secs_f64()
-    };
+/// Seconds for `times` calls of `work`.
+fn measure(times: u64, work: &mut impl FnMut()) -> f64 {
+    let start = Instant::now();
+    (0..times).for_each(|_| work());
+    start.elapsed().as_secs_f64()
+}
+
+/// How many calls of `work` take long enough to be timed.
+fn calls(work: &mut impl FnMut()) -> u64 {
     let mut times = 1;
-    while measure(times) < SECONDS {
+    while measure(times, work) < SECONDS {
         times *= 2;
     }
+    times
+}
+
+/// The least time of one call of `work`, in ns.
+pub fn time(mut work: impl FnMut()) -> f64 {
+    let times = calls(&mut work);
     let best = (0..REPETITIONS)
-        .map(|_| measure(times))
+        .map(|_| measure(times, &mut work))
         .fold(f64::INFINITY, f64::min);
     best / times as f64 * 1e9
+}
+
+/// The least times of one call of each, in ns, the repetitions in turn: what else the machine does
+/// slows both.
+pub fn times(mut ours: impl FnMut(), mut rust: impl FnMut()) -> (f64, f64) {
+    let (n, m) = (calls(&mut ours), calls(&mut rust));
+    let mut best = (f64::INFINITY, f64::INFINITY);
+    for _ in 0..REPETITIONS {
+        best.0 = best.0.min(measure(n, &mut ours));
+        best.1 = best.1.min(measure(m, &mut rust));
+    }
+    (best.0 / n as f64 * 1e9, best.1 / m as f64 * 1e9)
 }
 
 struct Row {

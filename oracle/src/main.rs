@@ -2,20 +2,25 @@
 //! body is not published. `oracle/run` builds and runs it.
 //!
 //! options: --seed N       the cases' seed (default 1); 'time' takes one from the clock
-//!          --cases N      cases of each number operation (default 10,000,000)
+//!          --cases N      cases of each number operation (default 10,000,000); a fifth as many
+//!                         outlines, with ten calls on each
 //!          --sample N     no comparison: writes about N cases with the Rust's answers ..
 //!          --to FOLDER    .. to FOLDER/stdin and FOLDER/stdout
 //!
 //! Exit status: 0 all equal; 1 a mismatch, each printed with its inputs and both answers as bit
-//! patterns; 2 bad usage.
+//! patterns (a long outline's first numbers only); 2 bad usage.
 #![allow(dead_code)] // the published modules hold more than is called yet
 
 mod library;
 mod numbers;
 mod original;
+mod outlines;
 mod random;
+mod refusals;
 mod report;
 mod sample;
+mod shapes;
+mod smallest;
 mod standins;
 
 use std::path::PathBuf;
@@ -56,6 +61,7 @@ fn options() -> Option<Options> {
 fn write_sample(seed: u64, count: u64, folder: PathBuf) -> ExitCode {
     let mut out = sample::Sample::default();
     numbers::sample(&mut out, seed, count);
+    outlines::sample(&mut out, seed, count / 4);
     match out.write(&folder) {
         Ok(()) => ExitCode::SUCCESS,
         Err(e) => {
@@ -70,7 +76,9 @@ fn compare(seed: u64, cases: u64) -> ExitCode {
     let start = Instant::now();
     let mut report = report::Report::new();
     numbers::compare(&mut report, seed, cases);
+    outlines::compare(&mut report, seed, cases / 5);
     let equal = report.finish();
+    smallest::print();
     println!("{:.1} s", start.elapsed().as_secs_f64());
     if equal {
         ExitCode::SUCCESS

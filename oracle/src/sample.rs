@@ -18,6 +18,39 @@ impl Sample {
         self.answers += &format!("{}\n", answers.join(" "));
     }
 
+    /// A call on an outline: its list goes in as its length and its numbers.
+    fn outline(&mut self, operation: &str, list: &[f64], more: &str, answer: &str) {
+        let len = list.len();
+        let numbers = hex_list(list);
+        let call = [operation, &format!("{len:x}"), &numbers, more];
+        let words: Vec<&str> = call.into_iter().filter(|w| !w.is_empty()).collect();
+        self.calls += &format!("{}\n", words.join(" "));
+        self.answers += &format!("{answer}\n");
+    }
+
+    /// A call on an outline that answers measures. A zero's sign is not compared: each is written
+    /// as +0.
+    pub fn measures(&mut self, operation: &str, list: &[f64], number: u32, measures: &[f64]) {
+        let measures: Vec<f64> = measures.iter().map(|x| x + 0.0).collect();
+        let answer = format!("{number:x} {}", hex_list(&measures));
+        self.outline(operation, list, "", &answer);
+    }
+
+    /// A call on an outline and a point that answers a flag or a location.
+    pub fn told(&mut self, operation: &str, list: &[f64], p: [f64; 2], number: u32, told: u32) {
+        let answer = format!("{number:x} {told:x}");
+        self.outline(operation, list, &hex_list(&p), &answer);
+    }
+
+    /// A call of making, with a lent list of zeros as long as `made`, which it turns into `made`.
+    pub fn make(&mut self, list: &[f64], number: u32, count: u32, made: &[f64]) {
+        let mut answer = format!("{number:x} {count:x}");
+        for x in made {
+            answer += &format!(" {}", hex(*x));
+        }
+        self.outline("make", list, &format!("{:x}", made.len()), &answer);
+    }
+
     pub fn write(&self, folder: &Path) -> std::io::Result<()> {
         fs::write(folder.join("stdin"), &self.calls)?;
         fs::write(folder.join("stdout"), &self.answers)

@@ -1,7 +1,7 @@
 -- ℤ as an ordered ring: the order is lib.Signed's (`_≤ℤ_`, `_<ℤ_`), which MIR's comparisons of signed integers are.
 -- `le-parts` and `parts-le` carry it to ℕ and back, and are rules that `omega` takes: `omega (arith, le-parts, parts-le)`.
 use mathlib.Core.Path.{_≡_, refl, ap}
-use mathlib.Core.Logic.{_⊎_, inl, inr, ⊎-elim}
+use mathlib.Core.Logic.{_⊎_, inl, inr}
 use Prim.Native.Nat.{ℕ, suc, _+_, _*_, _<_, _≤_, zero-le}
 use native.Mathlib.Nat.{mul-le-mul}
 use native.Mathlib.Decide.{decLe}
@@ -184,6 +184,9 @@ within-le {x} {d} {e} w h = record { low = omega (ord, w .low, posPart-neg d, ne
 
 pub within-neg : {x e : ℤ} → Within x e → Within (negℤ x) e
 within-neg {x} {e} w = record { low = negℤ-anti (w .high); high = omega (ord, w .low, posPart-neg x, negPart-neg x, posPart-neg e, negPart-neg e) }
+
+pub within-add : {x y d e : ℤ} → Within x d → Within y e → Within (x +ℤ y) (d +ℤ e)
+within-add {x} {y} {d} {e} h g = record { low = omega (ord, h .low, g .low, add-parts x y, add-parts d e, posPart-neg d, negPart-neg d, posPart-neg e, negPart-neg e, posPart-neg (d +ℤ e), negPart-neg (d +ℤ e)); high = +ℤ-mono (h .high) (g .high) }
 
 -- x² ≤ d² with d ≥ 0 gives |x| ≤ d
 pub within-of-sq : (x : ℤ) {d : ℤ} → pos 0 ≦ d → x *ℤ x ≦ d *ℤ d → Within x d

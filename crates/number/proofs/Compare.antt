@@ -8,7 +8,7 @@ use native.Mathlib.Omega.{arith}
 use lib.Dec.{T, T-not, not-T}
 use lib.IntN.{ℤ, pos, negℤ, _*ℤ_}
 use lib.Pow.{pow-pos}
-use lib.Signed.{ltZ, leZ, clashℤ}
+use lib.Signed.{ltZ, leZ, ltZ-yes, ltZ-no, clashℤ}
 use lib.Ieee.{Float, nan, inf, fin, up, down, below, level, lt, eq, le, neg}
 use lib.Ieee.Fits.{down-pos, and-l, and-r, and-i}
 use Rattle.algebra.specs.Quote.{quote}
@@ -33,6 +33,24 @@ eqZ→ {z} {w} t = ≤ℤ-antisym (record { le = and-l (leZ z w) (leZ w z) t }) 
 
 pub →eqZ : {z w : ℤ} → z ≡ w → T (eqZ z w)
 →eqZ {z} {w} e = and-i (leZ z w) (leZ w z) (≤ℤ-of-eq e .le) (≤ℤ-of-eq (sym e) .le)
+
+pub lt-true : {z w : ℤ} → z ≺ w → ltZ z w ≡ true
+lt-true {z} {w} h = same-bool (ltZ z w) true (λ t. tt) (λ t. h .lt)
+
+pub lt-false : {z w : ℤ} → w ≦ z → ltZ z w ≡ false
+lt-false {z} {w} h = same-bool (ltZ z w) false (λ t. clashℤ {a = z} {b = w} (record { lt = t }) h) (λ t. absurd t)
+
+pub is-lt : {z w : ℤ} → ltZ z w ≡ true → z ≺ w
+is-lt e = ltZ-yes (subst T (sym e) tt)
+
+pub not-lt : {z w : ℤ} → ltZ z w ≡ false → w ≦ z
+not-lt e = ltZ-no (subst (λ (b : Bool). T (not b)) (sym e) tt)
+
+pub le-true : {z w : ℤ} → z ≦ w → leZ z w ≡ true
+le-true {z} {w} h = same-bool (leZ z w) true (λ t. tt) (λ t. h .le)
+
+pub eq-false : {z w : ℤ} → w ≺ z → eqZ z w ≡ false
+eq-false {z} {w} h = same-bool (eqZ z w) false (λ t. clashℤ h (record { le = and-l (leZ z w) (leZ w z) t })) (λ t. absurd t)
 
 lt-not-le : (z w : ℤ) → ltZ z w ≡ not (leZ w z)
 lt-not-le z w = same-bool (ltZ z w) (not (leZ w z))

@@ -2,14 +2,14 @@
 use mathlib.Core.Path.{_≡_, refl, sym, ap, _∙_, subst}
 use mathlib.Core.Bool.{Bool, false}
 use Prim.Native.Nat.{ℕ, _+_, _*_, _^_, _≤_, _<_}
-use native.Mathlib.Nat.{le-trans, le-of-eq, one-mul, mul-one, mul-pos, mul-le-mul, mul-le-mul-right}
+use native.Mathlib.Nat.{le-trans, le-of-eq, one-mul, mul-one, mul-pos, add-le-add, mul-le-mul, mul-le-mul-right}
 use lib.IntN.{ℤ, pos, natAbs, _+ℤ_, _-ℤ_, _*ℤ_}
 use lib.Pow.{pow-add, pow-pos}
 use lib.Ieee.{Float, fin, binary64, add, sub, mul, div}
 use Rattle.algebra.specs.Int.{*ℤ-assoc}
 use Rattle.algebra.specs.Order.{natAbs-add, natAbs-neg, natAbs-mul, pos-lt}
 use Rattle.algebra.specs.Sign.{signed, natAbs-signed, mul-signed-pos}
-use Rattle.number.specs.Exact.{Is}
+use Rattle.number.specs.Exact.{Is, Sized}
 use Rattle.number.specs.Rounding.{Result}
 use Rattle.number.proofs.Operations.{neg-is, rescale, add-rounds, mul-rounds, div-rounds, half-rounds}
 use Rattle.number.proofs.RoundingLaws.{rounds-exact, rounds-result, result-cancel}
@@ -29,6 +29,17 @@ mul-is {j} {k} {z = z} {w = w} h g K l = rounds-exact (j + k) (mul-rounds h g) K
 -- x / 2
 pub half-is : {k : ℕ} {x : Float} {z : ℤ} → Is k x z → k + 1 ≤ 1074 → natAbs z ≤ 2 ^ 53 → Is (k + 1) (div binary64 x (fin false 1 (pos 1))) z
 half-is {k} h K l = rounds-exact (k + 1) (half-rounds h) K l
+
+-- with a bound on the size
+pub add-sized : {k m n : ℕ} {x y : Float} {z w : ℤ} → Sized k m x z → Sized k n y w → k ≤ 1074 → m + n ≤ 2 ^ 53 → Sized k (m + n) (add binary64 x y) (z +ℤ w)
+add-sized {z = z} {w = w} h g K l = let s = add-le-add (h .near) (g .near) in record { is = add-is (h .is) (g .is) K (le-trans s l); near = le-trans (natAbs-add z w) s }
+
+pub sub-sized : {k m n : ℕ} {x y : Float} {z w : ℤ} → Sized k m x z → Sized k n y w → k ≤ 1074 → m + n ≤ 2 ^ 53 → Sized k (m + n) (sub binary64 x y) (z -ℤ w)
+unfolding sub
+sub-sized {w = w} h g K l = add-sized h (record { is = neg-is (g .is); near = rw (natAbs-neg w) (g .near) }) K l
+
+pub mul-sized : {j k m n : ℕ} {x y : Float} {z w : ℤ} → Sized j m x z → Sized k n y w → j + k ≤ 1074 → m * n ≤ 2 ^ 53 → Sized (j + k) (m * n) (mul binary64 x y) (z *ℤ w)
+mul-sized {z = z} {w = w} h g K l = let s = mul-le-mul (h .near) (g .near) in record { is = mul-is (h .is) (g .is) K (le-trans s l); near = rw (natAbs-mul z w) s }
 
 -- ---- rounded once
 

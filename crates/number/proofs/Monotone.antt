@@ -1,5 +1,5 @@
 -- The operations keep the order of floats: for all finite numbers of `f64`, of either sign and of any size, overflow to an infinity included. Assumes nothing.
-use mathlib.Core.Path.{refl, sym, subst}
+use mathlib.Core.Path.{sym, subst}
 use mathlib.Core.Bool.{false}
 use Prim.Native.Nat.{ℕ, _<_}
 use lib.Dec.{T}
@@ -10,12 +10,9 @@ use Rattle.algebra.specs.Order.{_≦_, _≺_, ord, +ℤ-mono, negℤ-anti, nonn
 use Rattle.algebra.specs.Mono as M
 use Rattle.number.specs.Exact.{Is, Held, zeroᶠ}
 use Rattle.number.specs.Rounding.{Rounds}
-use Rattle.number.proofs.Operations.{equation→is, finite-is, add-rounds, sub-rounds, mul-rounds, div-rounds}
+use Rattle.number.proofs.Operations.{zero-is, finite-is, add-rounds, sub-rounds, mul-rounds, div-rounds}
 use Rattle.number.proofs.Compare.{lt-is, le-is}
 use Rattle.number.proofs.RoundingLaws.{rounds-order}
-
-zero-is : Is 1074 zeroᶠ (pos 0)
-zero-is = equation→is zeroᶠ refl
 
 -- the whole number of 2 ^ -1074 that x is
 abbrev units : {x : Float} → Held x → ℤ
@@ -37,13 +34,13 @@ sub-mono hx hx' hy hy' l m = order-over (sub-rounds (finite-is hx .1) (finite-is
 -- by a factor that is not negative
 pub mul-mono : {x x' y : Float} → Held x → Held x' → Held y → T (le x x') → T (le zeroᶠ y) → T (le (mul binary64 x y) (mul binary64 x' y))
 mul-mono hx hx' hy l m =
-    let w : pos 0 ≦ units hy = record { le = subst T (le-is zero-is (finite-is hy .1)) m } in
+    let w : pos 0 ≦ units hy = record { le = subst T (le-is (zero-is 1074) (finite-is hy .1)) m } in
     order-over (mul-rounds (finite-is hx .1) (finite-is hy .1)) (mul-rounds (finite-is hx' .1) (finite-is hy .1)) (M.mul-mono (units hy) w (units-order hx hx' l))
 
 -- by a divisor above zero
 pub div-mono : {x x' y : Float} → Held x → Held x' → Held y → T (le x x') → T (lt zeroᶠ y) → T (le (div binary64 x y) (div binary64 x' y))
 div-mono {y = y} hx hx' hy l m =
-    let W : pos 0 ≺ units hy = record { lt = subst T (lt-is zero-is (finite-is hy .1)) m } in
+    let W : pos 0 ≺ units hy = record { lt = subst T (lt-is (zero-is 1074) (finite-is hy .1)) m } in
     let b = natAbs (units hy) in
     let d : Is 1074 y (pos b) = subst (Is 1074 y) (sym (nonneg-nat (<ℤ→≤ℤ W))) (finite-is hy .1) in
     let B : 0 < b = omega (ord, natAbs-parts (units hy)) in

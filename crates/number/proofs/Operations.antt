@@ -4,7 +4,7 @@ use mathlib.Core.Logic.{⊎-elim}
 use mathlib.Core.List.{[], _∷_}
 use mathlib.Core.Bool.{Bool, true, false, not, _&&_, cond}
 use Prim.Native.Nat.{ℕ, zero, suc, _+_, _-_, _*_, _^_, _%_, _≤_, _<_}
-use native.Mathlib.Nat.{mul-pos, le-of-eq, eq-or-lt-of-le, mul-comm, mul-one, one-mul, lt-irrefl, le-refl, le-trans, lt-of-lt-of-le, lt-of-not-le, not-le-of-lt, le-of-suc-le-suc}
+use native.Mathlib.Nat.{mul-pos, le-of-eq, eq-or-lt-of-le, mul-comm, mul-one, one-mul, zero-mul, lt-irrefl, le-refl, le-trans, lt-of-lt-of-le, lt-of-not-le, not-le-of-lt, le-of-suc-le-suc}
 use native.Mathlib.Decide.{decLe}
 use native.Mathlib.Omega.{arith}
 use borrow.Author.Tests.{lt-ltb, le-ltb, ne-eqb}
@@ -22,7 +22,7 @@ use Rattle.algebra.specs.Int.{one-*ℤ, *ℤ-assoc}
 use Rattle.algebra.specs.Order.{pos-lt}
 use Rattle.algebra.specs.Mono.{mul-cancel-eq}
 use Rattle.algebra.specs.Sign.{signed, natAbs-signed, neg-signed, mul-signed, mul-signed-pos, signed-cross, add-signed, add-unlike-lt, add-unlike-ge}
-use Rattle.number.specs.Exact.{Is, Held}
+use Rattle.number.specs.Exact.{Is, Held, zeroᶠ}
 use Rattle.number.specs.Rounding.{Rounds}
 
 -- ---- `Is`, as one equation of whole numbers
@@ -60,6 +60,9 @@ rescale {k} {x} {z} j h = equation→is x (at x (is→equation h))
 
     at : (x : Float) → Equation k x z → Equation (k + j) x (z *ℤ pos (2 ^ j))
     at (fin s m e) p = rw (pow-add 2 k j) (scale (signed s (m * up e)) (pos (2 ^ k)) (pos (2 ^ j)) z (pos (down e)) p)
+
+pub zero-is : (k : ℕ) → Is k zeroᶠ (pos 0)
+zero-is k = record { sign = false; mag = 0; has = (refl, zero-mul (2 ^ k)); is = refl }
 
 pub neg-is : {k : ℕ} {x : Float} {z : ℤ} → Is k x z → Is k (neg x) (negℤ z)
 unfolding neg

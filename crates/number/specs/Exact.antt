@@ -1,9 +1,9 @@
 -- Exact values: which fraction of whole numbers a float is. Definitions only. Assumes nothing.
 use mathlib.Core.Path.{_≡_}
 use mathlib.Core.Bool.{Bool, false, _&&_}
-use Prim.Native.Nat.{ℕ, _^_}
+use Prim.Native.Nat.{ℕ, _^_, _≤_}
 use lib.Dec.{T}
-use lib.IntN.{ℤ, pos}
+use lib.IntN.{ℤ, pos, natAbs}
 use lib.Signed.{leZ}
 use lib.Ieee.{Float, fin, binary64, fits}
 use lib.Ieee.Exact.{HasValue}
@@ -16,6 +16,11 @@ pub record Is (k : ℕ) (x : Float) (z : ℤ) : Type 0 where
   pub mag : ℕ
   pub has : HasValue x sign mag (2 ^ k)
   pub is : signed sign mag ≡ z
+
+-- x is exactly z / 2 ^ k, and z has a magnitude of at most n
+pub record Sized (k n : ℕ) (x : Float) (z : ℤ) : Type 0 where
+  pub is : Is k x z
+  pub near : natAbs z ≤ n
 
 -- x is a finite number of `f64`
 pub record Held (x : Float) : Type 0 where

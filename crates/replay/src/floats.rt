@@ -8,12 +8,17 @@ pub fn float(bits: u64) -> f64 {
     0.0 / 0.0
 }
 
-// Writes the bits of x, or 'nan', and a line end.
-pub fn print(x: f64) {
+// Writes the bits of x, or 'nan'.
+pub fn write(x: f64) {
     if x == x {
         io::print_hex(1, f64::to_bits(x), 16);
     } else {
         io::write_all(1, b"nan");
     }
+}
+
+// Writes the bits of x, or 'nan', and a line end.
+pub fn print(x: f64) {
+    write(x);
     io::write_all(1, b"\n");
 }

@@ -1,5 +1,6 @@
 // Tokens from standard input, which comes in parts of any length.
-ghost use Prim.Native.Nat.{_<_};
+ghost use Prim.Native.Nat.{_<_, _≤_};
+ghost use Rattle.replay.specs.Counts.{Counts};
 
 // Where the reader stands in the buffer: the bytes from at up to end are still to be read.
 pub struct Reader {
@@ -125,4 +126,33 @@ pub fn word(buf: &mut [u8], r: Reader) -> Token {
     let end = s.reader;
     t.reader = end;
     t
+}
+
+// How many floats a list got, and the reader past them.
+pub struct Listed {
+    pub count: usize,
+    pub reader: Reader,
+}
+
+// A list: its count, then its floats, as many as there is room for.
+pub fn list(buf: &mut [u8], r: Reader, out: &mut [f64]) -> Listed
+    ensures { λ r. ⌜ Counts (r .count) (now (out .exit)) ⌝ }
+{
+    let n = word(buf, r);
+    let mut at = n.reader;
+    let mut i: usize = 0;
+    while i < out.len() && wide_count(i) < n.number {
+        let w = word(buf, at);
+        out[i] = crate::floats::float(w.number);
+        at = w.reader;
+        i += 1;
+    }
+    Listed {
+        count: i,
+        reader: at,
+    }
+}
+
+fn wide_count(i: usize) -> u64 {
+    i as u64
 }

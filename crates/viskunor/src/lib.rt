@@ -1,5 +1,8 @@
 // Every operation as a C host calls it. The work stands in the crates below; include/viskunor.h
 // declares these functions and says what they do in plain words.
+mod answers;
+pub mod outlines;
+
 ghost use mathlib.Core.Path.{_≡_};
 ghost use Rattle.number.specs.Root.{sqrtOf};
 ghost use Rattle.number.specs.Hypot.{hypotOf};

@@ -1,0 +1,45 @@
+-- Folds by a loop: what is left to fold gives the final answer, one member is taken at each turn, and at the end nothing is left. Assumes nothing.
+use mathlib.Core.Path.{_≡_, refl}
+use mathlib.Core.Bool.{Bool, true, false, _||_, true≢false}
+use mathlib.Core.List.{List, [], _∷_}
+use Prim.Native.Nat.{ℕ, suc, _+_, _-_, _≤_, _<_}
+use native.Mathlib.Numerals.{add-one}
+use native.Mathlib.Omega.{arith}
+use lib.ListN.{length, getD, drop}
+use lib.Seq.{drop-cons, drop-length}
+use Rattle.boundary.specs.Folds.{run, fold, any}
+
+module _ {A B : Type 0} (f : A → B → A) where
+  -- over the run g i, g (i + 1), .. up to g n, that one not included
+  pub fold-run-next : (g : ℕ → B) (a : A) (i n : ℕ) → i < n → fold f a (run g i (n - i)) ≡ fold f (f a (g i)) (run g (i + 1) (n - (i + 1)))
+  unfolding fold run
+  fold-run-next g a i n l = let e : n - i ≡ suc (n - (i + 1)) = omega arith in rw (e, add-one)
+
+  pub fold-run-end : (g : ℕ → B) (a : A) (i n : ℕ) → n ≤ i → fold f a (run g i (n - i)) ≡ a
+  unfolding fold run
+  fold-run-end g a i n l = let e : n - i ≡ 0 = omega arith in rw e
+
+  -- over the members of v from i on
+  pub fold-drop-next : (d : B) (a : A) (v : List B) (i : ℕ) → i < length v → fold f a (drop i v) ≡ fold f (f a (getD v i d)) (drop (i + 1) v)
+  unfolding fold
+  fold-drop-next d a v i l = rw (drop-cons v i d l, add-one)
+
+  pub fold-drop-end : (a : A) (v : List B) (i : ℕ) → i ≤ length v → length v ≤ i → fold f a (drop i v) ≡ a
+  unfolding fold
+  fold-drop-end a v i l h = let e : i ≡ length v = omega arith in rw (e, drop-length)
+
+or-weaker : (a b c d : Bool) → (b ≡ false → a ≡ false) → (d ≡ false → c ≡ false) → (b || d) ≡ false → (a || c) ≡ false
+or-weaker a false c false h k e = rw (h refl, k refl)
+or-weaker a false c true h k e = absurd (true≢false e)
+or-weaker a true c d h k e = absurd (true≢false e)
+
+-- where no member passes a test, none passes one that is harder to pass
+module _ {A : Type 0} (p q : A → Bool) (harder : (x : A) → q x ≡ false → p x ≡ false) where
+  fold-none : (a b : Bool) (xs : List A) → (b ≡ false → a ≡ false) → fold (λ c x. c || q x) b xs ≡ false → fold (λ c x. c || p x) a xs ≡ false
+  unfolding fold
+  fold-none a b [] h e = h e
+  fold-none a b (x ∷ xs) h e = fold-none (a || p x) (b || q x) xs (or-weaker a b (p x) (q x) h (harder x)) e
+
+  pub any-none : (xs : List A) → any q xs ≡ false → any p xs ≡ false
+  unfolding any
+  any-none xs e = fold-none false false xs (λ h. h) e

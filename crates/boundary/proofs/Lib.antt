@@ -1,0 +1,6 @@
+-- Laws of the boundary layer.
+
+-- What a loop that folds a run or a list cites.
+pub mod FoldLaws
+-- A run by its last member, and a run reversed.
+pub mod RunLaws

@@ -1,0 +1,70 @@
+// An outline's points and edges, and what boundary.rs works out from them.
+ghost use mathlib.Core.Path.{_≡_};
+ghost use Prim.Native.Nat.{_<_};
+ghost use Rattle.boundary.specs.Outline.{count, after, vertexAt, edgeAt, edges};
+ghost use Rattle.boundary.specs.Length.{edgeLength, lengthOf};
+
+// A point, in µm.
+pub struct Point {
+    pub x: f64,
+    pub y: f64,
+}
+
+// The straight line from a to b.
+pub struct Edge {
+    pub a: Point,
+    pub b: Point,
+}
+
+// Vertex i of an outline's numbers.
+pub fn vertex_at(v: &[f64], i: usize) -> Point
+    requires { ⌜ i < count (now v) ⌝ }
+    ensures { λ r. ⌜ r ≡ vertexAt (now (v .entry)) i ⌝ }
+{
+    Point {
+        x: v[2 * i],
+        y: v[2 * i + 1],
+    }
+}
+
+// The number of the vertex after vertex i of n.
+pub fn next(i: usize, n: usize) -> usize
+    requires { ⌜ i < n ⌝ }
+    ensures { λ r. ⌜ (r ≡ after n i) × (r < n) ⌝ }
+{
+    let j = i + 1;
+    if j == n { 0 } else { j }
+}
+
+// The edge that leaves vertex i.
+pub fn edge_at(v: &[f64], i: usize) -> Edge
+    requires { ⌜ i < count (now v) ⌝ }
+    ensures { λ r. ⌜ r ≡ edgeAt (now (v .entry)) i ⌝ }
+{
+    let j = next(i, v.len() / 2);
+    Edge {
+        a: vertex_at(v, i),
+        b: vertex_at(v, j),
+    }
+}
+
+// The length of one edge.
+fn line_length(e: Edge) -> f64
+    ensures { λ r. ⌜ r ≡ edgeLength e ⌝ }
+{
+    number::root::hypot(e.b.x - e.a.x, e.b.y - e.a.y)
+}
+
+// The length of an outline's edges together.
+pub fn length(v: &[f64]) -> f64
+    ensures { λ r. ⌜ r ≡ lengthOf (edges (now (v .entry))) ⌝ }
+{
+    let n = v.len() / 2;
+    let mut sum = 0.0;
+    let mut i = 0;
+    while i < n {
+        sum = sum + line_length(edge_at(v, i));
+        i += 1;
+    }
+    sum
+}

@@ -1,0 +1,32 @@
+-- The laws of outlines on the grid.
+
+-- ---- the theorems
+-- An outline that the tests accept: `grid-exact`.
+pub mod OneOutline
+-- Making an outline: `made-accepted`.
+pub mod Making
+-- The area of any edges: `area-exact`.
+pub mod Area
+-- The location of a point among any edges: `location-exact`, `contains-exact`.
+pub mod Location
+-- Whole edges for an outline on the grid: `edges-on`.
+pub mod WholeEdges
+-- ---- what they rest on
+-- One edge and one point.
+pub mod OneEdge
+-- Where an edge crosses a point's height.
+pub mod Crossing
+-- Points on the line of an edge.
+pub mod Line
+-- Points between two ends.
+pub mod Between
+-- Lists related member by member.
+pub mod EachLaws
+-- An outline's edges are the loop of its vertices.
+pub mod Loop
+-- A loop walked backwards.
+pub mod Turned
+-- Vertices and their numbers.
+pub mod Numbers
+-- What the tests say of an outline that passes them.
+pub mod Tests

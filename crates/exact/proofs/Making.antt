@@ -1,0 +1,166 @@
+-- An outline on the grid that making accepts is made into one that passes tests 1 to 9. Assumes nothing.
+use mathlib.Core.Path.{_≡_, refl, sym, ap, ap₂, _∙_, subst}
+use mathlib.Core.Bool.{Bool, true, false, not, _&&_, _||_, cond, and-comm}
+use mathlib.Core.List.{List, [], _∷_, reverse}
+use Prim.Native.Nat.{ℕ, _*_, _%_}
+use native.Mathlib.Omega.{arith}
+use borrow.Author.Tests.{eqb-false}
+use lib.Dec.{ltb}
+use lib.IntN.{ℤ, pos, negℤ, natAbs, _+ℤ_}
+use lib.ListN.{length, take, drop, length-reverse}
+use lib.Seq.{take-at}
+use lib.Signed.{leZ}
+use lib.Ieee.{Float, lt}
+use Rattle.algebra.specs.Quote.{quote, ring}
+use Rattle.algebra.specs.Order.{_≺_, absℤ, nonneg-nat, natAbs-neg, <ℤ→≤ℤ}
+use Rattle.algebra.specs.Lin as L
+use Rattle.algebra.specs.Lin.{lt-from}
+use Rattle.number.specs.Exact.{Is, zeroᶠ, eqZ}
+use Rattle.number.proofs.Operations.{is-unique, zero-is}
+use Rattle.number.proofs.Compare.{lt-false, is-lt, not-lt, eq-false, lt-is, eq-is}
+use Rattle.boundary.specs.declared.Point.{Point}
+use Rattle.boundary.specs.declared.Edge.{Edge}
+use Rattle.boundary.specs.Folds.{any}
+use Rattle.boundary.specs.Outline.{count, vertexAt, vertices, edges}
+use Rattle.geometry.specs.declared.Verdict.{Verdict}
+use Rattle.geometry.specs.declared.Verdict.the-variants.{Passed, Failed}
+use Rattle.geometry.specs.declared.Answer.the-variants.{Told, Refused}
+use Rattle.geometry.specs.declared.Refusal.the-variants.{ShortBuffer}
+use Rattle.geometry.specs.Polygon.{areaOf}
+use Rattle.geometry.specs.Refusals.{samePoint, shapeTested, signTested, outlineTested}
+use Rattle.geometry.specs.Answers.{answerFor}
+use Rattle.geometry.specs.Making.{kept, keptCount, tooShort, numbers, turned, atFront, makeAnswer, writtenFor, madeList}
+use Rattle.exact.specs.Whole.{PointZ, EdgeZ, edgeZ, crossZ, shoelaceZ}
+use Rattle.exact.specs.Grid.{PointOn, EdgeOn, Each, EdgesOn, OutlineOn}
+use Rattle.exact.specs.OneOutline.{MadeOn}
+use Rattle.exact.proofs.EachLaws.{any-each, any-never, take-each, reverse-each}
+use Rattle.exact.proofs.Loop.{length-run, loop, edges-loop}
+use Rattle.exact.proofs.Turned.{loop-turned}
+use Rattle.exact.proofs.Numbers.{length-numbers, vertices-numbers, numbers-vertices, numbers-on}
+use Rattle.exact.proofs.WholeEdges.{loop-on, vertices-on}
+use Rattle.exact.proofs.Tests.{grid-finite, grid-in-field, Shape, shape, tested}
+use Rattle.exact.proofs.Area.{area-exact}
+use Rattle.exact.proofs.OneOutline.{few-edges}
+
+-- ---- test 7: whether the ends are equal does not depend on their order
+abbrev sameEnds : EdgeZ → Bool
+sameEnds e = eqZ (e .a .x) (e .b .x) && eqZ (e .a .y) (e .b .y)
+
+same-exact : (e : Edge) (f : EdgeZ) → EdgeOn e f → samePoint (e .a) (e .b) ≡ sameEnds f
+same-exact e f E = ap₂ _&&_ (eq-is (E .a .x .is) (E .b .x .is)) (eq-is (E .a .y .is) (E .b .y .is))
+
+same-turned : (qs : List PointZ) → any sameEnds (loop edgeZ (reverse qs)) ≡ any sameEnds (loop edgeZ qs)
+unfolding any
+same-turned qs = loop-turned edgeZ (λ b e. b || sameEnds e) (λ b. b) (λ b e f. swap b (sameEnds e) (sameEnds f)) (λ s a b. ap (λ t. s || t) (ap₂ _&&_ (equal (b .x) (a .x)) (equal (b .y) (a .y)))) false qs
+  where
+    swap : (a b c : Bool) → (a || b || c) ≡ (a || c || b)
+    swap true b c = refl
+    swap false true true = refl
+    swap false true false = refl
+    swap false false true = refl
+    swap false false false = refl
+
+    equal : (x y : ℤ) → eqZ x y ≡ eqZ y x
+    equal x y = and-comm (leZ x y) (leZ y x)
+
+-- ---- tests 8 and 9: backwards, the shoelace sum is the opposite
+shoelace-turned : (qs : List PointZ) → shoelaceZ (loop edgeZ (reverse qs)) ≡ negℤ (shoelaceZ (loop edgeZ qs))
+unfolding shoelaceZ crossZ
+shoelace-turned qs =
+    loop-turned edgeZ (λ z e. z +ℤ crossZ e) negℤ
+    (λ z e f. ring (z ∷ crossZ e ∷ crossZ f ∷ []) (search quote depth 30) tt)
+    (λ z a b. ring (z ∷ a .x ∷ a .y ∷ b .x ∷ b .y ∷ []) (search quote depth 30) tt) (pos 0) qs
+
+-- ---- an outline of negative area, reversed
+edges-numbers : {ps : List Point} {qs : List PointZ} → Each PointOn ps qs → EdgesOn (edges (numbers ps)) (loop edgeZ qs)
+edges-numbers {ps} r = rw (edges-loop (numbers ps), vertices-numbers ps) (loop-on r)
+
+length-vertices : (v : List Float) → length (vertices v) ≡ count v
+unfolding vertices
+length-vertices v = length-run (vertexAt v) 0 (count v)
+
+even-length : {w : List Float} {a : Float} → Shape w a → length w ≡ 2 * count w
+even-length {w} s = let h = eqb-false (length w % 2) 1 (s .even) in omega arith
+
+module _ {w : List Float} {a : Float} {qs : List PointZ} (s : Shape w a) (r : Each PointOn (vertices w) qs) where
+  abbrev back : List Float
+  back = numbers (reverse (vertices w))
+
+  back-length : length back ≡ length w
+  back-length = length-numbers (reverse (vertices w)) ∙ ap (λ (n : ℕ). 2 * n) (length-reverse (vertices w) ∙ length-vertices w) ∙ sym (even-length s)
+
+  abbrev total : ℤ
+  total = shoelaceZ (loop edgeZ qs)
+
+  area-is : Is 21 a total
+  area-is = subst (λ (x : Float). Is 21 x total) (s .area) (area-exact (rw (edges-loop w) (loop-on r)) (few-edges w (s .few)))
+
+  back-few : ltb 4096 (count back) ≡ false
+  back-few = rw back-length (s .few)
+
+  back-area : Is 21 (areaOf (edges back)) (negℤ total)
+  back-area = subst (Is 21 (areaOf (edges back))) (shoelace-turned qs) (area-exact (edges-numbers (reverse-each r)) (few-edges back back-few))
+
+  module _ (negative : lt a zeroᶠ ≡ true) where
+    above : pos 0 ≺ negℤ total
+    above = let h : total ≺ pos 0 = is-lt (sym (lt-is area-is (zero-is 21)) ∙ negative) in lt-from (total ∷ []) (L.lt h ∷ []) (search quote depth 30) (omega arith)
+
+    back-shape : Shape back (areaOf (edges back))
+    back-shape =
+        let on = numbers-on (reverse-each r) in
+        record {
+          even = rw back-length (s .even);
+          enough = rw back-length (s .enough);
+          few = back-few;
+          all-finite = any-each (λ x z g. ap not (grid-finite g)) (on .on) ∙ any-never (on .steps);
+          all-in-field = any-each (λ x z g. ap not (grid-in-field g)) (on .on) ∙ any-never (on .steps);
+          apart = any-each same-exact (edges-numbers (reverse-each r)) ∙ same-turned qs ∙ sym (any-each same-exact (rw (edges-loop w) (loop-on r))) ∙ s .apart;
+          nonzero = eq-is back-area (zero-is 21) ∙ eq-false above;
+          area = refl;
+        }
+
+    back-accepted : outlineTested back ≡ Passed (areaOf (edges back))
+    unfolding outlineTested signTested
+    back-accepted = rw (tested back-shape, lt-is back-area (zero-is 21), lt-false (<ℤ→≤ℤ above))
+
+    back-magnitude : {z : ℤ} → Is 21 (areaOf (edges w)) z → Is 21 (areaOf (edges back)) (absℤ z)
+    back-magnitude {z} h =
+        let same : z ≡ total = is-unique (subst (λ (x : Float). Is 21 x z) (s .area) h) area-is in
+        subst (Is 21 (areaOf (edges back))) (sym (nonneg-nat (<ℤ→≤ℤ above)) ∙ ap pos (natAbs-neg total ∙ ap natAbs (sym same))) back-area
+
+-- ---- the theorem
+pub made-accepted : {v : List Float} (out : List Float) {n : ℕ} → OutlineOn v → makeAnswer v (length out) ≡ Told n → MadeOn v (take (2 * n) (madeList v out))
+unfolding makeAnswer answerFor madeList writtenFor atFront turned outlineTested signTested
+made-accepted {v} out {n} g e = go (shapeTested (kept v)) refl e
+  where
+    w : List Float
+    w = kept v
+
+    made : {a : Float} (b : Bool) → shapeTested w ≡ Passed a → lt a zeroᶠ ≡ b → MadeOn v (numbers (cond b (reverse (vertices w)) (vertices w)))
+    made {a} true t e =
+        let r = vertices-on (take-each (keptCount v) (g .on)) .1 in
+        let s = shape w a t in
+        record { on = numbers-on (reverse-each r); area = areaOf (edges (back s r)); accepted = back-accepted s r e; magnitude = back-magnitude s r e }
+    made {a} false t e =
+        let s = shape w a t in
+        rw (numbers-vertices w (even-length s)) (record {
+          on = record { steps = take (keptCount v) (g .steps); on = take-each (keptCount v) (g .on) };
+          area = a;
+          accepted = rw (t, e);
+          magnitude = λ {z} h. let m = subst (λ (x : Float). Is 21 x z) (s .area) h in subst (Is 21 a) (sym (nonneg-nat (not-lt (sym (lt-is m (zero-is 21)) ∙ e)))) m;
+        })
+
+    told : (b : Bool) (m : ℕ) → cond b (Refused ShortBuffer) (Told m) ≡ Told n → (b ≡ false) × (m ≡ n)
+    told false m e = (refl, cc)
+    told true m e = absurd (let z : _≡_ {A = ℕ} 0 1 = cc in omega arith)
+
+    length-turned : (b : Bool) → length (cond b (reverse (vertices w)) (vertices w)) ≡ count w
+    length-turned true = length-reverse (vertices w) ∙ length-vertices w
+    length-turned false = length-vertices w
+
+    go : (t : Verdict) → shapeTested w ≡ t → answerFor t (λ a. cond (tooShort v (length out)) (Refused ShortBuffer) (Told (count w))) ≡ Told n → MadeOn v (take (2 * n) (writtenFor v out t))
+    go (Failed r) t e = absurd (let z : _≡_ {A = ℕ} 0 1 = cc in omega arith)
+    go (Passed a) t e =
+        let k = told (tooShort v (length out)) (count w) e in
+        let ps = cond (lt a zeroᶠ) (reverse (vertices w)) (vertices w) in
+        rw (k .0, take-at (numbers ps) (drop (length (numbers ps)) out) (2 * n) (length-numbers ps ∙ ap (λ (m : ℕ). 2 * m) (length-turned (lt a zeroᶠ) ∙ k .1))) (made (lt a zeroᶠ) t refl)

@@ -1,0 +1,130 @@
+-- One edge and one point of the grid: whether the point is on the edge, and whether a ray to its right crosses it. Assumes nothing.
+use mathlib.Core.Path.{_≡_, refl, sym, ap, ap₂, _∙_, subst}
+use mathlib.Core.List.{[], _∷_}
+use mathlib.Core.Bool.{Bool, true, false, _&&_}
+use Prim.Native.Nat.{ℕ, zero, suc, _*_, _^_, _≤_, _<_}
+use native.Mathlib.Nat.{le-trans, le-of-eq, add-le-add, mul-le-mul, mul-comm, one-mul, zero-lt-suc}
+use native.Mathlib.Omega.{arith}
+use lib.Dec.{T, lit≤}
+use lib.IntN.{ℤ, pos, negsuc, natAbs, _+ℤ_, _-ℤ_, _*ℤ_}
+use lib.Signed.{ltZ}
+use lib.Ieee.{Float, binary64, unlike, add, sub, mul, div, lt}
+use Rattle.algebra.specs.Quote.{quote, ring}
+use Rattle.algebra.specs.Order.{_≦_, _≺_, Within, within-natAbs, le-of-within, natAbs-mul, pos-lt, pos-le, pos-nonneg}
+use Rattle.algebra.specs.Lin.{eq, eq-from}
+use Rattle.algebra.specs.Mono.{within-mul}
+use Rattle.algebra.specs.Sign.{signed, sign, signed-of, natAbs-signed, mul-signed-pos}
+use Rattle.number.specs.Exact.{Is, Sized}
+use Rattle.number.specs.Rounding.{Result}
+use Rattle.number.proofs.Operations.{zero-is, rescale}
+use Rattle.number.proofs.ExactLaws.{sub-sized, mul-sized, add-result, div-result}
+use Rattle.number.proofs.Compare.{lt-is, eq-is}
+use Rattle.boundary.specs.declared.Point.{Point}
+use Rattle.boundary.specs.declared.Edge.{Edge}
+use Rattle.geometry.specs.Polygon.{crossesOf, turnOf, onEdge}
+use Rattle.exact.specs.Whole.{PointZ, EdgeZ, turnZ, onEdgeZ, crossesZ}
+use Rattle.exact.specs.Grid.{OnGrid, PointOn, EdgeOn}
+use Rattle.exact.proofs.Between.{between-is, product-nearer}
+use Rattle.exact.proofs.Line.{Across, across, on-line}
+use Rattle.exact.proofs.Crossing.{lt-scaled, lt-beside, cleared, at-crossing, rounded-in, crossing-near}
+
+difference : {x y : Float} {z w : ℤ} → OnGrid x z → OnGrid y w → Sized 10 (2 ^ 21) (sub binary64 x y) (z -ℤ w)
+difference h g = sub-sized h g (lit≤ tt) (lit≤ tt)
+
+product : {x y : Float} {z w : ℤ} → Sized 10 (2 ^ 21) x z → Sized 10 (2 ^ 21) y w → Sized 20 (2 ^ 42) (mul binary64 x y) (z *ℤ w)
+product h g = mul-sized h g (lit≤ tt) (lit≤ tt)
+
+module _ {e : Edge} {f : EdgeZ} {p : Point} {q : PointZ} (E : EdgeOn e f) (P : PointOn p q) where
+  -- ---- on the edge
+  turn-exact : Is 20 (turnOf e p) (turnZ f q)
+  unfolding turnZ
+  turn-exact = sub-sized (product (difference (E .b .x) (E .a .x)) (difference (P .y) (E .a .y))) (product (difference (E .b .y) (E .a .y)) (difference (P .x) (E .a .x))) (lit≤ tt) (lit≤ tt) .is
+
+  pub on-edge-exact : onEdge p e ≡ onEdgeZ q f
+  unfolding onEdge onEdgeZ
+  on-edge-exact = ap₂ _&&_ (eq-is turn-exact (zero-is 20)) (ap₂ _&&_ (between-is (E .a .x .is) (E .b .x .is) (P .x .is)) (between-is (E .a .y .is) (E .b .y .is) (P .y .is)))
+
+  -- ---- the crossing, at x = n / d + b.x
+  abbrev d : ℤ
+  d = f .a .y -ℤ f .b .y
+
+  abbrev n : ℤ
+  n = (f .a .x -ℤ f .b .x) *ℤ (q .y -ℤ f .b .y)
+
+  abbrev quotient : Float
+  quotient = div binary64 (mul binary64 (sub binary64 (e .a .x) (e .b .x)) (sub binary64 (p .y) (e .b .y))) (sub binary64 (e .a .y) (e .b .y))
+
+  module _ (A : Across (f .a .y) (f .b .y) (q .y)) where
+    -- d is i * c, where c is above 0 and i is 1 or -1
+    abbrev i : ℤ
+    i = signed (sign d) 1
+
+    abbrev c : ℕ
+    c = natAbs d
+
+    d-split : d ≡ i *ℤ pos c
+    d-split = sym (signed-of d) ∙ ap (signed (sign d)) (sym (one-mul c)) ∙ sym (mul-signed-pos (sign d) 1 c)
+
+    i-square : i *ℤ i ≡ pos 1
+    i-square = go (sign d)
+      where
+        go : (s : Bool) → signed s 1 *ℤ signed s 1 ≡ pos 1
+        go false = refl
+        go true = refl
+
+    C : 0 < c
+    C = some d (A .square)
+      where
+        some : (x : ℤ) → pos 0 ≺ x *ℤ x → 0 < natAbs x
+        some (pos zero) h = absurd (h .lt)
+        some (pos (suc n)) h = zero-lt-suc n
+        some (negsuc n) h = zero-lt-suc n
+
+    d-is : Sized 10 (2 ^ 21) (sub binary64 (e .a .y) (e .b .y)) d
+    d-is = difference (E .a .y) (E .b .y)
+
+    n-size : natAbs n ≤ 2 ^ 21 * c
+    n-size = rw (natAbs-mul (f .a .x -ℤ f .b .x) (q .y -ℤ f .b .y)) (mul-le-mul (difference (E .a .x) (E .b .x) .near) (product-nearer (f .a .y) (f .b .y) (q .y) (A .product)))
+
+    n-in : Within (i *ℤ n) (pos (2 ^ 21) *ℤ pos c)
+    n-in = within-natAbs (le-trans (le-of-eq (natAbs-mul i n ∙ ap (λ (m : ℕ). m * natAbs n) (natAbs-signed (sign d) 1) ∙ one-mul (natAbs n))) n-size)
+
+    b-in : Within (f .b .x) (pos (2 ^ 20))
+    b-in = within-natAbs (E .b .x .near)
+
+    -- in units of 2 ^ -1074
+    abbrev step : ℤ
+    step = pos (2 ^ 1064)
+
+    S : pos (2 ^ 52) ≦ step
+    S = record { le = tt }
+
+    divided : Result quotient (i *ℤ n *ℤ step) (pos c)
+    divided = div-result 10 10 1064 refl (sign d) (product (difference (E .a .x) (E .b .x)) (difference (P .y) (E .b .y)) .is) (subst (Is 10 (sub binary64 (e .a .y) (e .b .y))) (sym (signed-of d)) (d-is .is)) C
+        (le-trans n-size (le-trans (le-of-eq (mul-comm (2 ^ 21) c)) (mul-le-mul (le-of-eq refl) (lit≤ tt))))
+
+    moved : Result (add binary64 quotient (e .b .x)) (divided .R +ℤ f .b .x *ℤ step) (pos 1)
+    moved = add-result (divided .is) (rescale 1064 (E .b .x .is))
+        (le-trans (add-le-add (le-of-within (rounded-in S (pos-lt C) (pos-le (d-is .near)) n-in b-in (divided .rnd))) (le-of-within (within-mul step (pos-nonneg (2 ^ 1064)) b-in))) (lit≤ tt))
+
+    -- a point that is not on the edge is not at the crossing
+    off-crossing : (T (onEdgeZ q f) → ⊥) → i *ℤ n +ℤ f .b .x *ℤ pos c ≡ q .x *ℤ pos c → ⊥
+    unfolding turnZ
+    off-crossing off same = off (on-line f q A (eq-from (f .a .x ∷ f .a .y ∷ f .b .x ∷ f .b .y ∷ q .x ∷ q .y ∷ []) (eq (at-crossing n d (f .b .x) i (pos c) (q .x) d-split i-square same) ∷ []) (search quote depth 30) (omega arith)))
+
+    crossing-exact : (T (onEdgeZ q f) → ⊥) → lt (p .x) (add binary64 quotient (e .b .x)) ≡ ltZ ((q .x -ℤ f .b .x) *ℤ (d *ℤ d)) (n *ℤ d)
+    crossing-exact off =
+        lt-is (rescale 1064 (P .x .is)) (moved .is)
+        ∙ sym (lt-scaled (pos c) (q .x *ℤ step) (moved .R) (q .x *ℤ pos c *ℤ step) (moved .R *ℤ pos c) (pos-lt C) (ring (q .x ∷ step ∷ moved .R ∷ pos c ∷ []) (search quote depth 30) tt))
+        ∙ lt-beside (i *ℤ n +ℤ f .b .x *ℤ pos c) (q .x *ℤ pos c) step (moved .R *ℤ pos c) (record { lt = tt }) (crossing-near S (pos-lt C) (pos-le (d-is .near)) n-in b-in (divided .rnd) (moved .rnd)) (off-crossing off)
+        ∙ sym (lt-scaled (pos c) (q .x *ℤ pos c) (i *ℤ n +ℤ f .b .x *ℤ pos c) ((q .x -ℤ f .b .x) *ℤ (d *ℤ d)) (n *ℤ d) (pos-lt C) (cleared n d (f .b .x) i (pos c) (q .x) d-split i-square))
+
+  pub crosses-exact : (T (onEdgeZ q f) → ⊥) → crossesOf p e ≡ crossesZ q f
+  unfolding crossesOf crossesZ
+  crosses-exact off =
+      ap₂ (λ (s t : Bool). unlike s t && lt (p .x) (add binary64 quotient (e .b .x))) (lt-is (P .y .is) (E .b .y .is)) (lt-is (P .y .is) (E .a .y .is))
+      ∙ and-same (unlike (ltZ (q .y) (f .b .y)) (ltZ (q .y) (f .a .y))) (λ t. crossing-exact (across (f .a .y) (f .b .y) (q .y) t) off)
+    where
+      and-same : (b : Bool) {c d : Bool} → (T b → c ≡ d) → (b && c) ≡ (b && d)
+      and-same true h = h tt
+      and-same false h = refl

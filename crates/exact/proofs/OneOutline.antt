@@ -1,0 +1,40 @@
+-- Demand 3 of one outline that the tests accept, for area and location. Assumes nothing.
+use mathlib.Core.Path.{_≡_, subst}
+use mathlib.Core.Bool.{false}
+use mathlib.Core.List.{List}
+use Prim.Native.Nat.{_≤_}
+use borrow.Author.Tests.{ltb-false}
+use lib.Dec.{ltb}
+use lib.ListN.{length}
+use lib.Ieee.{Float}
+use Rattle.number.specs.Exact.{Is}
+use Rattle.boundary.specs.Outline.{count, edgeAt, edges}
+use Rattle.geometry.specs.declared.Verdict.the-variants.{Passed}
+use Rattle.geometry.specs.Refusals.{outlineTested, pointTested}
+use Rattle.geometry.specs.Answers.{answerFor, areaAnswer, locateAnswer}
+use Rattle.exact.specs.Whole.{shoelaceZ}
+use Rattle.exact.specs.Grid.{OutlineOn}
+use Rattle.exact.specs.OneOutline.{GridExact}
+use Rattle.exact.proofs.Area.{area-exact}
+use Rattle.exact.proofs.Location.{location-exact}
+use Rattle.exact.proofs.Loop.{length-run}
+use Rattle.exact.proofs.WholeEdges.{edges-on}
+use Rattle.exact.proofs.Tests.{grid-in-field, shape, accepted}
+
+pub few-edges : (v : List Float) → ltb 4096 (count v) ≡ false → length (edges v) ≤ 4096
+unfolding edges
+few-edges v h = rw (length-run (edgeAt v) 0 (count v)) (ltb-false 4096 (count v) h)
+
+pub grid-exact : {v : List Float} {a : Float} → OutlineOn v → outlineTested v ≡ Passed a → GridExact v a
+unfolding areaAnswer locateAnswer answerFor pointTested
+grid-exact {v} {a} g e =
+    let s = shape v a (accepted v a e) in
+    let w = edges-on g in
+    record {
+      whole = w .0;
+      on = w .1;
+      area = subst (λ (x : Float). Is 21 x (shoelaceZ (w .0))) (s .area) (area-exact (w .1) (few-edges v (s .few)));
+      area-answer = rw e;
+      location = λ P. location-exact (w .1) P;
+      location-answer = λ P. rw (e, grid-in-field (P .x), grid-in-field (P .y), location-exact (w .1) P);
+    }

@@ -1,0 +1,6 @@
+-- Laws of the geometry layer.
+
+-- What an outline that passes the tests has.
+pub mod TestLaws
+-- What a loop that writes points cites.
+pub mod WriteLaws

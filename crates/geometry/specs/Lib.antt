@@ -1,0 +1,10 @@
+-- What the geometry layer promises. Definitions only.
+
+-- An outline's area, containment, location and bounds.
+pub mod Polygon
+-- The tests that an outline and a point go through, in document 01's order.
+pub mod Refusals
+-- What each operation answers, and the paper's number and values for it.
+pub mod Answers
+-- Making an outline.
+pub mod Making

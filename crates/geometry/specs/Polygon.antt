@@ -1,0 +1,77 @@
+-- An outline's area, containment, location and bounds, over its edges or vertices (document 01, geometry.rs). Definitions only.
+use mathlib.Core.Bool.{Bool, true, false, _&&_, cond}
+use mathlib.Core.List.{List}
+use Prim.Native.Nat.{ℕ}
+use lib.IntN.{pos}
+use lib.Ieee.{Float, inf, fin, binary64, unlike, add, sub, mul, div, lt, le, eq}
+use Rattle.number.specs.Exact.{zeroᶠ}
+use Rattle.boundary.specs.declared.Point.{Point}
+use Rattle.boundary.specs.declared.Edge.{Edge}
+use Rattle.boundary.specs.Folds.{fold, any, oddly, total}
+use Rattle.geometry.specs.declared.Bounds.{Bounds}
+
+-- ---- area: half the shoelace sum
+abbrev pub crossOf : Edge → Float
+crossOf e = sub binary64 (mul binary64 (e .a .x) (e .b .y)) (mul binary64 (e .b .x) (e .a .y))
+
+abbrev pub two : Float
+two = fin false 1 (pos 1)
+
+unfoldable pub areaOf : List Edge → Float
+unfolding total sub mul div
+areaOf es = div binary64 (total crossOf es) two
+
+-- ---- containment: an edge counts when exactly one end has y above the point and the point's x is strictly below the crossing
+unfoldable pub crossesOf : Point → Edge → Bool
+unfolding add sub mul div lt
+crossesOf p e =
+    unlike (lt (p .y) (e .b .y)) (lt (p .y) (e .a .y))
+    && lt (p .x) (add binary64 (div binary64 (mul binary64 (sub binary64 (e .a .x) (e .b .x)) (sub binary64 (p .y) (e .b .y))) (sub binary64 (e .a .y) (e .b .y))) (e .b .x))
+
+unfoldable pub containsOf : List Edge → Point → Bool
+unfolding oddly crossesOf
+containsOf es p = oddly (crossesOf p) es
+
+-- ---- location: 0 outside, 1 boundary, 2 inside, the boundary tested first
+-- of two numbers the lesser and the greater, the first where they are equal
+abbrev pub lesser : Float → Float → Float
+lesser a b = cond (lt b a) b a
+
+abbrev pub greater : Float → Float → Float
+greater a b = cond (lt a b) b a
+
+-- q lies between a and b, ends included
+abbrev pub between : Float → Float → Float → Bool
+between a b q = le (lesser a b) q && le q (greater a b)
+
+-- (b - a) × (p - a)
+abbrev pub turnOf : Edge → Point → Float
+turnOf e p =
+    sub binary64 (mul binary64 (sub binary64 (e .b .x) (e .a .x)) (sub binary64 (p .y) (e .a .y)))
+    (mul binary64 (sub binary64 (e .b .y) (e .a .y)) (sub binary64 (p .x) (e .a .x)))
+
+-- the point lies within the box of the edge's two ends, and the cross product works out to zero
+unfoldable pub onEdge : Point → Edge → Bool
+unfolding sub mul lt le eq
+onEdge p e = eq (turnOf e p) zeroᶠ && (between (e .a .x) (e .b .x) (p .x) && between (e .a .y) (e .b .y) (p .y))
+
+unfoldable pub locateOf : List Edge → Point → ℕ
+unfolding any onEdge containsOf
+locateOf es p = cond (any (onEdge p) es) 1 (cond (containsOf es p) 2 0)
+
+-- ---- bounds
+-- the box with nothing in it
+abbrev pub nowhere : Bounds
+nowhere = record { min = record { x = inf false; y = inf false }; max = record { x = inf true; y = inf true } }
+
+-- the box stretched to the point
+unfoldable pub stretched : Bounds → Point → Bounds
+unfolding lt
+stretched b p = record {
+  min = record { x = lesser (b .min .x) (p .x); y = lesser (b .min .y) (p .y) };
+  max = record { x = greater (b .max .x) (p .x); y = greater (b .max .y) (p .y) };
+}
+
+unfoldable pub boundsOf : List Point → Bounds
+unfolding fold stretched
+boundsOf ps = fold stretched nowhere ps

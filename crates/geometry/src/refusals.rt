@@ -1,0 +1,184 @@
+// The tests of an outline and of a point, in document 01's order.
+ghost use mathlib.Core.Path.{_≡_};
+ghost use mathlib.Core.Bool.{not};
+ghost use lib.Ieee.Scale.{finite};
+ghost use Rattle.boundary.specs.Folds.{any};
+ghost use Rattle.boundary.specs.Outline.{edges};
+ghost use Rattle.geometry.specs.Polygon.{crossOf};
+ghost use Rattle.geometry.specs.Refusals.{number, inField, samePoint, areaTested, edgesTested, valuesTested, shapeTested, outlineTested, signTested, pointTested};
+use crate::Refusal;
+use crate::Verdict;
+use boundary::Edge;
+use boundary::Point;
+
+const LIMIT: f64 = 1048576.0;
+
+// The paper's number of a refusal.
+pub fn number_of(r: Refusal) -> u32
+    ensures { λ n. ⌜ n ≡ number r ⌝ }
+{
+    match r {
+        Refusal::OddCount => 1,
+        Refusal::TooFew => 3,
+        Refusal::TooMany => 4,
+        Refusal::NotFinite => 5,
+        Refusal::OutsideField => 6,
+        Refusal::EqualNeighbours => 7,
+        Refusal::ZeroArea => 8,
+        Refusal::NegativeArea => 9,
+        Refusal::BadPoint => 10,
+        Refusal::ShortBuffer => 13,
+    }
+}
+
+fn is_finite(x: f64) -> bool
+    ensures { λ r. ⌜ r ≡ finite x ⌝ }
+{
+    let top = 1.0 / 0.0;
+    (-top < x) & (x < top)
+}
+
+// Whether x is in the field.
+pub fn in_field(x: f64) -> bool
+    ensures { λ r. ⌜ r ≡ inField x ⌝ }
+{
+    (-LIMIT <= x) & (x <= LIMIT)
+}
+
+pub fn same_point(a: Point, b: Point) -> bool
+    ensures { λ r. ⌜ r ≡ samePoint a b ⌝ }
+{
+    (a.x == b.x) & (a.y == b.y)
+}
+
+// Whether a number is not finite.
+fn any_not_finite(v: &[f64]) -> bool
+    ensures { λ r. ⌜ r ≡ any (λ x. not (finite x)) (now (v .entry)) ⌝ }
+{
+    let mut found = false;
+    let mut i = 0;
+    while i < v.len() {
+        found = found | !is_finite(v[i]);
+        i += 1;
+    }
+    found
+}
+
+// Whether a number is outside the field.
+fn any_outside(v: &[f64]) -> bool
+    ensures { λ r. ⌜ r ≡ any (λ x. not (inField x)) (now (v .entry)) ⌝ }
+{
+    let mut found = false;
+    let mut i = 0;
+    while i < v.len() {
+        found = found | !in_field(v[i]);
+        i += 1;
+    }
+    found
+}
+
+// An edge's term of the shoelace sum.
+fn cross(e: Edge) -> f64
+    ensures { λ r. ⌜ r ≡ crossOf e ⌝ }
+{
+    e.a.x * e.b.y - e.b.x * e.a.y
+}
+
+// Test 8.
+fn area_tested(a: f64) -> Verdict
+    ensures { λ r. ⌜ r ≡ areaTested a ⌝ }
+{
+    if a == 0.0 {
+        return Verdict::Failed(Refusal::ZeroArea);
+    }
+    Verdict::Passed(a)
+}
+
+// Tests 7 and 8, in one pass over the edges.
+fn edges_tested(v: &[f64]) -> Verdict
+    ensures { λ r. ⌜ r ≡ edgesTested (edges (now (v .entry))) ⌝ }
+{
+    let n = v.len() / 2;
+    let mut equal = false;
+    let mut sum = 0.0;
+    let mut i = 0;
+    while i < n {
+        let e = boundary::edge_at(v, i);
+        equal = equal | same_point(e.a, e.b);
+        sum = sum + cross(e);
+        i += 1;
+    }
+    if equal {
+        return Verdict::Failed(Refusal::EqualNeighbours);
+    }
+    area_tested(sum / 2.0)
+}
+
+// Tests 5 to 8. What is not finite is outside the field too, so one pass tells that both pass.
+fn values_tested(v: &[f64]) -> Verdict
+    ensures { λ r. ⌜ r ≡ valuesTested (now (v .entry)) ⌝ }
+{
+    if any_outside(v) {
+        if any_not_finite(v) {
+            return Verdict::Failed(Refusal::NotFinite);
+        }
+        return Verdict::Failed(Refusal::OutsideField);
+    }
+    edges_tested(v)
+}
+
+// Tests 1 and 3 to 8.
+pub fn shape_tested(v: &[f64]) -> Verdict
+    ensures { λ r. ⌜ r ≡ shapeTested (now (v .entry)) ⌝ }
+{
+    let n = v.len() / 2;
+    if v.len() % 2 == 1 {
+        return Verdict::Failed(Refusal::OddCount);
+    }
+    if n < 3 {
+        return Verdict::Failed(Refusal::TooFew);
+    }
+    if 4096 < n {
+        return Verdict::Failed(Refusal::TooMany);
+    }
+    values_tested(v)
+}
+
+// Test 9.
+fn sign_tested(t: Verdict) -> Verdict
+    ensures { λ r. ⌜ r ≡ signTested t ⌝ }
+{
+    match t {
+        Verdict::Passed(a) => {
+            if a < 0.0 {
+                Verdict::Failed(Refusal::NegativeArea)
+            } else {
+                Verdict::Passed(a)
+            }
+        }
+        Verdict::Failed(r) => Verdict::Failed(r),
+    }
+}
+
+// The tests of a query's outline, 1 to 9.
+pub fn outline_tested(v: &[f64]) -> Verdict
+    ensures { λ r. ⌜ r ≡ outlineTested (now (v .entry)) ⌝ }
+{
+    sign_tested(shape_tested(v))
+}
+
+// Test 10, after those of the outline.
+pub fn point_tested(p: Point, t: Verdict) -> Verdict
+    ensures { λ r. ⌜ r ≡ pointTested p t ⌝ }
+{
+    match t {
+        Verdict::Passed(a) => {
+            if in_field(p.x) & in_field(p.y) {
+                Verdict::Passed(a)
+            } else {
+                Verdict::Failed(Refusal::BadPoint)
+            }
+        }
+        Verdict::Failed(r) => Verdict::Failed(r),
+    }
+}
