@@ -29,6 +29,7 @@ static const char *reason(uint32_t number)
     case 8: return "no area";
     case 9: return "a negative area";
     case 10: return "a point outside the field";
+    case 12: return "a bad semi-axis, or a point too close to an axis";
     case 13: return "a lent list that is too short";
     default: return "?";
     }
@@ -62,6 +63,18 @@ static void point(const char *name, const double *vertices, size_t len, double x
     if (vk_outline_locate(vertices, len, x, y, &location) == 0)
         printf("(%g, %g) is %s %s, which %s it.\n", x, y, places[location], name,
                inside ? "contains" : "does not contain");
+}
+
+static void distance(const char *name, const double *vertices, size_t len, double x, double y)
+{
+    double distance, normal_x, normal_y;
+    uint32_t number = vk_outline_distance(vertices, len, x, y, &distance, &normal_x, &normal_y);
+    if (number != 0) {
+        printf("(%g, %g) is turned away, number %u: %s.\n", x, y, (unsigned)number, reason(number));
+        return;
+    }
+    printf("(%g, %g) has the distance %.17g from %s, with the normal (%g, %g).\n", x, y, distance, name,
+           normal_x, normal_y);
 }
 
 static void make(const char *name, const double *vertices, size_t len)
@@ -105,14 +118,40 @@ static void outlines(void)
     point("the square", square, LENGTH(square), 2097152, 2);
     point("the arrow", arrow, LENGTH(arrow), 1, 3);
     point("the arrow", arrow, LENGTH(arrow), 4, 3);
+    distance("the square", square, LENGTH(square), 6, 2);
+    distance("the square", square, LENGTH(square), 1, 2);
+    distance("the square", square, LENGTH(square), 7, 8);
+    distance("the square", square, LENGTH(square), 4, 1);
+    distance("the arrow", arrow, LENGTH(arrow), 1, 3);
+    distance("the arrow", arrow, LENGTH(arrow), 2097152, 2);
     make("The square gone round the other way", turned, LENGTH(turned));
     make("The square with its first vertex again at the end", closed, LENGTH(closed));
     make("A list of five numbers", square, 5);
+}
+
+static void ellipse(double semi_x, double semi_y, double x, double y)
+{
+    double nearest_x, nearest_y, distance;
+    uint32_t number = vk_ellipse_nearest(0, 0, semi_x, semi_y, x, y, &nearest_x, &nearest_y, &distance);
+    if (number != 0)
+        printf("(%g, %g) is turned away, number %u: %s.\n", x, y, (unsigned)number, reason(number));
+    else
+        printf("The ellipse with the semi-axes %g and %g is nearest to (%g, %g) at (%g, %g), %g away.\n",
+               semi_x, semi_y, x, y, nearest_x, nearest_y, distance);
+}
+
+static void ellipses(void)
+{
+    ellipse(2, 1, 3, 0);
+    ellipse(2, 1, 0, -0.0);
+    ellipse(1, 2, 0.5, -0.25);
+    ellipse(2, 1, 0.5, 1e-18);
 }
 
 int main(void)
 {
     numbers();
     outlines();
+    ellipses();
     return 0;
 }

@@ -227,6 +227,24 @@ static void test_point(int line, const double *list, size_t len, double x, doubl
     expect_space("vk_outline_locate", line, lent_space, list, len);
 }
 
+/* A signed distance and its normal. */
+typedef struct { double distance, x, y; } away;
+
+static const away no_distance = { 0, 0, 0 };
+
+static void test_distance(int line, const double *list, size_t len, double x, double y,
+                          uint32_t number, away want)
+{
+    double distance = from_bits(stale), normal_x = distance, normal_y = distance;
+    const double *lent = lend(list, len);
+    expect_word("vk_outline_distance", line,
+                vk_outline_distance(lent, len, x, y, &distance, &normal_x, &normal_y), number);
+    expect("vk_outline_distance, distance", line, distance, to_bits(want.distance));
+    expect("vk_outline_distance, normal x", line, normal_x, to_bits(want.x));
+    expect("vk_outline_distance, normal y", line, normal_y, to_bits(want.y));
+    expect_space("vk_outline_distance", line, lent_space, list, len);
+}
+
 /* Making into `room` places: `made` is what the first 2 * count of them must hold. */
 static void test_make(int line, const double *list, size_t len, size_t room,
                       uint32_t number, uint32_t count, const double *made)
@@ -340,6 +358,42 @@ static void outline_points(void)
     test_point(142, square, 5, 2, 2, 1, 0, 0);
 }
 
+static void outline_distances(void)
+{
+    static const struct { double x, y; away want; } cases[] = {
+        { 6, 2, { 2, 1, 0 } }, { 1, 2, { -1, -1, -0.0 } }, { 7, 8, { 5, 0.6, 0.8 } },
+        { -3, -4, { 5, -0.6, -0.8 } }, { 2, 3, { -1, -0.0, 1 } }, { 2, -3, { 3, 0, -1 } },
+        /* the first edge among equals: the lower one */
+        { 2, 2, { -2, -0.0, -1 } },
+        /* on the boundary: +0 and the edge's own normal, at a corner the first edge's */
+        { 2, 0, { 0, 0, -1 } }, { 4, 2, { 0, 1, -0.0 } }, { 2, 4, { 0, 0, 1 } }, { 0, 2, { 0, -1, -0.0 } },
+        { 4, 4, { 0, 1, -0.0 } }, { 0, 0, { 0, 0, -1 } }
+    };
+    away near_edge = { 0, 1, -0.0 };
+    double bad[4];
+    int i;
+    for (i = 0; i < COUNT(cases); i++)
+        test_distance(i, LIST(square), cases[i].x, cases[i].y, 0, cases[i].want);
+    /* within 16 units of the edge: the magnitude stays, and the normal is the edge's own */
+    near_edge.distance = 1.0 / 1125899906842624.0;
+    test_distance(20, LIST(square), 4 + near_edge.distance, 2, 0, near_edge);
+    near_edge.distance = -near_edge.distance / 2;
+    test_distance(21, LIST(square), 4 + near_edge.distance, 2, 0, near_edge);
+    bad[0] = from_bits(not_a_number);
+    bad[1] = from_bits(infinity);
+    bad[2] = from_bits(past_field_end);
+    bad[3] = -from_bits(past_field_end);
+    for (i = 0; i < 4; i++) {
+        test_distance(100 + i, LIST(square), bad[i], 2, 10, no_distance);
+        test_distance(110 + i, LIST(square), 2, bad[i], 10, no_distance);
+        test_distance(120 + i, LIST(turned), bad[i], 2, 9, no_distance);
+        test_distance(130 + i, (const double *)0, 0, bad[i], bad[i], 3, no_distance);
+    }
+    test_distance(140, LIST(flat), 2, 2, 8, no_distance);
+    test_distance(141, LIST(closed), 2, 2, 7, no_distance);
+    test_distance(142, square, 5, 2, 2, 1, no_distance);
+}
+
 static void outline_making(void)
 {
     double list[8];
@@ -432,7 +486,7 @@ static void exact_memory(int line, const double *list, size_t len, uint32_t coun
 {
     double *vertices = (double *)malloc(len * sizeof *vertices);
     double *made = (double *)malloc(len * sizeof *made);
-    double area, perimeter, min_x, min_y, max_x, max_y;
+    double area, perimeter, min_x, min_y, max_x, max_y, distance, normal_x, normal_y;
     uint32_t inside, location, told;
     if (vertices == NULL || made == NULL) {
         printf("no memory\n");
@@ -444,10 +498,13 @@ static void exact_memory(int line, const double *list, size_t len, uint32_t coun
     expect_word("vk_outline_bounds", line, vk_outline_bounds(vertices, len, &min_x, &min_y, &max_x, &max_y), 0);
     expect_word("vk_outline_contains", line, vk_outline_contains(vertices, len, max_x, min_y, &inside), 0);
     expect_word("vk_outline_locate", line, vk_outline_locate(vertices, len, min_x, max_y, &location), 0);
+    expect_word("vk_outline_distance", line,
+                vk_outline_distance(vertices, len, max_x, max_y + 1, &distance, &normal_x, &normal_y), 0);
     expect_word("vk_outline_make", line, vk_outline_make(vertices, len, made, len, &told), 0);
     expect_word("vk_outline_make, count", line, told, count);
     checks++;
-    if (!(area > 0 && perimeter > 0 && min_x < max_x && min_y < max_y && inside <= 1 && location <= 2)
+    if (!(area > 0 && perimeter > 0 && min_x < max_x && min_y < max_y && inside <= 1 && location <= 2
+          && distance >= 1 && normal_x >= 0 && normal_y > 0)
         || memcmp(made, list, 2 * count * sizeof *made) != 0) {
         failures++;
         printf("exact memory, case %d: a wrong answer\n", line);
@@ -466,11 +523,70 @@ static void outline_memory(void)
     exact_memory(3, list, 8192, 4096);
 }
 
+static void test_ellipse(int line, const double *in, uint32_t number, const double *want)
+{
+    double got[3];
+    int i;
+    got[0] = got[1] = got[2] = from_bits(stale);
+    expect_word("vk_ellipse_nearest", line,
+                vk_ellipse_nearest(in[0], in[1], in[2], in[3], in[4], in[5], &got[0], &got[1], &got[2]), number);
+    for (i = 0; i < 3; i++)
+        expect("vk_ellipse_nearest", line, got[i], to_bits(want[i]));
+}
+
+static void ellipses(void)
+{
+    static const double none[3] = { 0, 0, 0 };
+    /* centre, semi-axes, point; nearest, distance */
+    static const double cases[][9] = {
+        { 0, 0, 2, 1, 3, 0, 2, 0, 1 },
+        { 0, 0, 2, 1, -3, 0, -2, 0, 1 },
+        { 0, 0, 2, 1, 0, 0, 0, 1, 1 },
+        { 0, 0, 2, 1, 0, -0.0, 0, -1, 1 },
+        { 0, 0, 1, 2, 0, 3, 0, 2, 1 },
+        { 0, 0, 1, 2, 0, 0, 1, 0, 1 },
+        { 0, 0, 1, 2, -0.0, 0, -1, 0, 1 },
+        { 0, 0, 2, 1, 0, 5, 0, 1, 4 },
+        { 0, 0, 2, 1, 0, -0.5, 0, -1, 0.5 },
+        { 10, -20, 2, 1, 13, -20, 12, -20, 1 },
+        { 0, 0, 5, 5, 6, 8, 3, 4, 5 },
+        { 0, 0, 5, 5, -6, 8, -3, 4, 5 },
+        { 0, 0, 1024, 0.0009765625, 0, 1, 0, 0.0009765625, 0.9990234375 },
+        { 1048576, 0, 2, 1, 1048573, 0, 1048574, 0, 1 }
+    };
+    /* one number replaced: which, by what, and the refusal */
+    static const struct { int place; double by; uint32_t number; } bad[] = {
+        { 0, 1048576.5, 10 }, { 1, -1048577, 10 }, { 4, 1048577, 10 }, { 5, -1048576.5, 10 },
+        { 2, 0, 12 }, { 3, -1, 12 }, { 2, 1024.5, 12 }, { 3, 1025, 12 }, { 3, 0.0009765624, 12 },
+        { 4, 0.0000009536743, 12 }, { 5, -0.0000009536743, 12 }, { 5, 1e-300, 12 }
+    };
+    double in[6];
+    int i, j;
+    for (i = 0; i < COUNT(cases); i++)
+        test_ellipse(i, cases[i], 0, cases[i] + 6);
+    for (i = 0; i < COUNT(bad); i++) {
+        memcpy(in, cases[0], sizeof in);
+        in[bad[i].place] = bad[i].by;
+        test_ellipse(100 + i, in, bad[i].number, none);
+    }
+    for (i = 0; i < 6; i++)
+        for (j = 0; j < 3; j++) {
+            memcpy(in, cases[0], sizeof in);
+            in[i] = j == 0 ? from_bits(not_a_number) : j == 1 ? from_bits(infinity) : -from_bits(infinity);
+            test_ellipse(200 + 3 * i + j, in, i == 2 || i == 3 ? 12 : 10, none);
+            /* 10 comes before 12 */
+            in[2] = 0;
+            test_ellipse(300 + 3 * i + j, in, i == 2 || i == 3 ? 12 : 10, none);
+        }
+}
+
 int main(void)
 {
     numbers();
+    ellipses();
     outline_measures();
     outline_points();
+    outline_distances();
     outline_making();
     outline_sizes();
     outline_memory();

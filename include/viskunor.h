@@ -144,6 +144,57 @@ uint32_t vk_outline_contains(const double *vertices, size_t vertices_len,
 uint32_t vk_outline_locate(const double *vertices, size_t vertices_len,
                            double x, double y, uint32_t *location);
 
+/*
+ * The signed distance of the point (x, y) from the boundary, and the normal at
+ * the nearest point.
+ *   The nearest point of an edge from a to b is a + t * (b - a), where t is the
+ * dot product of (point - a) and (b - a) over the squared length of the edge,
+ * held to 0..1 (0 where that square vanishes); t = 1 gives b itself. Its
+ * magnitude is vk_hypot of the point less the nearest point. The first edge
+ * among those of the least magnitude is taken.
+ *   distance: the magnitude, negated where vk_outline_contains says 1; +0 where
+ *     it is 0.
+ *   normal_x, normal_y: (point - nearest) / magnitude, negated where
+ *     vk_outline_contains says 1, so that it points out of the outline. Where
+ *     the magnitude is at most 16 * 2^-52 * the largest magnitude of the point's
+ *     and the nearest point's coordinates, the edge's own normal instead: the
+ *     way from a to b turned to the right, over its length; (1, 0) where that
+ *     length vanishes.
+ *   refusals: 1, 3 to 10.
+ */
+uint32_t vk_outline_distance(const double *vertices, size_t vertices_len, double x, double y,
+                             double *distance, double *normal_x, double *normal_y);
+
+/*
+ * Ellipses.
+ *
+ * An ellipse is given by its centre and its two semi-axes, semi_x along x and
+ * semi_y along y, in micrometres. Its call returns 0 where it is accepted, and
+ * the number of its refusal otherwise, tested in this order:
+ *
+ *   10  a number of the point or the centre is outside the field or not finite
+ *   12  a semi-axis is outside 2^-10 to 1,024 or not finite, or x - centre_x or
+ *       y - centre_y, as a double, is neither zero nor at least 2^-20 in
+ *       magnitude
+ *
+ * A refused call writes zero (+0) to every answer field. No two answer fields
+ * may be the same.
+ */
+
+/*
+ * The point of the ellipse that is nearest to (x, y), and its distance: the
+ * vk_hypot of (x, y) less that point. Of points that are equally near, the one
+ * on the side that the signs of x - centre_x and y - centre_y say, those of
+ * zeros included.
+ * The point is found by halving an interval, and is not promised to be exact:
+ * near the centre of a nearly round ellipse it can be off, and lie off the
+ * ellipse, by 2^-12 micrometres.
+ *   refusals: 10, 12.
+ */
+uint32_t vk_ellipse_nearest(double centre_x, double centre_y, double semi_x, double semi_y,
+                            double x, double y,
+                            double *nearest_x, double *nearest_y, double *distance);
+
 #ifdef __cplusplus
 }
 #endif

@@ -40,6 +40,27 @@ mod exports {
             y: f64,
             location: *mut u32,
         ) -> u32;
+        pub fn vk_outline_distance(
+            vertices: *const f64,
+            vertices_len: usize,
+            x: f64,
+            y: f64,
+            distance: *mut f64,
+            normal_x: *mut f64,
+            normal_y: *mut f64,
+        ) -> u32;
+
+        pub fn vk_ellipse_nearest(
+            centre_x: f64,
+            centre_y: f64,
+            semi_x: f64,
+            semi_y: f64,
+            x: f64,
+            y: f64,
+            nearest_x: *mut f64,
+            nearest_y: *mut f64,
+            distance: *mut f64,
+        ) -> u32;
     }
 }
 
@@ -110,4 +131,29 @@ pub fn contains(vertices: &[f64], [x, y]: [f64; 2], inside: &mut u32) -> u32 {
 #[inline]
 pub fn locate(vertices: &[f64], [x, y]: [f64; 2], location: &mut u32) -> u32 {
     unsafe { exports::vk_outline_locate(address(vertices), vertices.len(), x, y, location) }
+}
+
+/// The fields are the distance and the normal's x and y.
+#[inline]
+pub fn distance(vertices: &[f64], [x, y]: [f64; 2], fields: &mut [f64; 3]) -> u32 {
+    let [distance, normal_x, normal_y] = fields;
+    unsafe {
+        exports::vk_outline_distance(
+            address(vertices),
+            vertices.len(),
+            x,
+            y,
+            distance,
+            normal_x,
+            normal_y,
+        )
+    }
+}
+
+/// The input is the centre, the semi-axes and the point; the answer is the nearest point and its
+/// distance.
+#[inline]
+pub fn ellipse_nearest([cx, cy, a, b, x, y]: [f64; 6], answer: &mut [f64; 3]) -> u32 {
+    let [nearest_x, nearest_y, distance] = answer;
+    unsafe { exports::vk_ellipse_nearest(cx, cy, a, b, x, y, nearest_x, nearest_y, distance) }
 }

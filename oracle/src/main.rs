@@ -3,7 +3,7 @@
 //!
 //! options: --seed N       the cases' seed (default 1); 'time' takes one from the clock
 //!          --cases N      cases of each number operation (default 10,000,000); a fifth as many
-//!                         outlines, with ten calls on each
+//!                         outlines, with thirteen calls on each, and a tenth as many ellipses
 //!          --sample N     no comparison: writes about N cases with the Rust's answers ..
 //!          --to FOLDER    .. to FOLDER/stdin and FOLDER/stdout
 //!
@@ -11,6 +11,7 @@
 //! patterns (a long outline's first numbers only); 2 bad usage.
 #![allow(dead_code)] // the published modules hold more than is called yet
 
+mod ellipses;
 mod library;
 mod numbers;
 mod original;
@@ -77,6 +78,7 @@ fn compare(seed: u64, cases: u64) -> ExitCode {
     let mut report = report::Report::new();
     numbers::compare(&mut report, seed, cases);
     outlines::compare(&mut report, seed, cases / 5);
+    ellipses::compare(&mut report, seed, cases / 10);
     let equal = report.finish();
     smallest::print();
     println!("{:.1} s", start.elapsed().as_secs_f64());

@@ -1,5 +1,5 @@
-//! Outlines: making, area, perimeter, bounds, containment and location against the original bodies
-//! of `Polygon`. What is turned away comes from `refusals`, what is answered from the Rust. Checked
+//! Outlines: making, area, perimeter, bounds, containment, location and distance against the original
+//! bodies of `Polygon`. What is turned away comes from `refusals`, what is answered from the Rust. Checked
 //! too: a refused call writes +0 to every answer field, and lent lists hold what they must.
 use crate::library;
 use crate::original::geometry::{self, Point, Polygon, Region};
@@ -8,7 +8,7 @@ use crate::refusals;
 use crate::report::{Report, hex_list};
 use crate::sample::Sample;
 use crate::shapes;
-use crate::standins::Location;
+use crate::standins::{Distance, Location};
 
 /// What a call gives: its number and its answer fields, zeros where it has fewer.
 #[derive(Clone, Copy, Debug, Default)]
@@ -70,6 +70,7 @@ enum Query {
     Bounds,
     Contains([f64; 2]),
     Locate([f64; 2]),
+    Distance([f64; 2]),
 }
 
 impl Query {
@@ -80,12 +81,13 @@ impl Query {
             Query::Bounds => "bounds",
             Query::Contains(_) => "contains",
             Query::Locate(_) => "locate",
+            Query::Distance(_) => "distance",
         }
     }
 
     fn point(self) -> Option<[f64; 2]> {
         match self {
-            Query::Contains(p) | Query::Locate(p) => Some(p),
+            Query::Contains(p) | Query::Locate(p) | Query::Distance(p) => Some(p),
             _ => None,
         }
     }
@@ -99,6 +101,12 @@ impl Query {
             Query::Bounds => library::bounds(list, &mut measures),
             Query::Contains(p) => library::contains(list, p, &mut told),
             Query::Locate(p) => library::locate(list, p, &mut told),
+            Query::Distance(p) => {
+                let mut fields = [STALE_FLOAT; 3];
+                let number = library::distance(list, p, &mut fields);
+                measures[..3].copy_from_slice(&fields);
+                number
+            }
         };
         // fields that the operation does not have
         match self {
@@ -107,6 +115,10 @@ impl Query {
                 told = 0;
             }
             Query::Bounds => told = 0,
+            Query::Distance(_) => {
+                measures[3] = 0.0;
+                told = 0;
+            }
             Query::Contains(_) | Query::Locate(_) => measures.fill(0.0),
         }
         Answer {
@@ -140,6 +152,10 @@ impl Query {
                 Location::Boundary => 1,
                 Location::Inside => 2,
             }),
+            Query::Distance(p) => {
+                let Distance(d, n) = polygon.distance(at(p));
+                Answer::measures([d, n[0], n[1], 0.0])
+            }
         }
     }
 }
@@ -242,6 +258,7 @@ impl Case<'_> {
             let p = shapes::point(list, r);
             self.query(list, Query::Contains(p));
             self.query(list, Query::Locate(p));
+            self.query(list, Query::Distance(p));
         }
     }
 }

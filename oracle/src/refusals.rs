@@ -55,6 +55,20 @@ pub fn query(list: &[f64], point: Option<[f64; 2]>) -> u32 {
     0
 }
 
+/// What an ellipse gets: its centre, its semi-axes and the point.
+pub fn ellipse([cx, cy, a, b, x, y]: [f64; 6]) -> u32 {
+    if [cx, cy, x, y].iter().any(|v| !(v.abs() <= FIELD)) {
+        return 10;
+    }
+    let axis = |v: f64| (0.0009765625..=1024.0).contains(&v);
+    let offset = |d: f64| d == 0.0 || d.abs() >= 1.0 / 1_048_576.0;
+    if axis(a) && axis(b) && offset(x - cx) && offset(y - cy) {
+        0
+    } else {
+        12
+    }
+}
+
 /// What making gets, with a lent list of `room` places.
 pub fn making(list: &[f64], room: usize) -> u32 {
     // an odd count is test 1's whether or not the whole vertices close

@@ -4,3 +4,7 @@
 pub mod FoldLaws
 -- A run by its last member, and a run reversed.
 pub mod RunLaws
+-- What the halving loop cites.
+pub mod HalveLaws
+-- Of two floats at most one is below the other.
+pub mod Asym

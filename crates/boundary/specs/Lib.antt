@@ -6,3 +6,7 @@ pub mod Folds
 pub mod Outline
 -- The length of edges.
 pub mod Length
+-- The nearest point of a line, and the signed distance.
+pub mod Nearest
+-- The nearest point of an ellipse.
+pub mod Ellipse

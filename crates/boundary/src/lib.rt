@@ -1,4 +1,7 @@
 // An outline's points and edges, and what boundary.rs works out from them.
+pub mod ellipse;
+pub mod nearest;
+
 ghost use mathlib.Core.Path.{_≡_};
 ghost use Prim.Native.Nat.{_<_};
 ghost use Rattle.boundary.specs.Outline.{count, after, vertexAt, edgeAt, edges};
@@ -14,6 +17,41 @@ pub struct Point {
 pub struct Edge {
     pub a: Point,
     pub b: Point,
+}
+
+// The point of a boundary that is nearest to another: its distance, the point, and the boundary's own
+// normal there.
+pub struct Near {
+    pub d: f64,
+    pub q: Point,
+    pub n: Point,
+}
+
+// A signed distance and the normal.
+pub struct Distance {
+    pub d: f64,
+    pub n: Point,
+}
+
+// The point of a piece that is nearest to another, and its distance.
+pub struct Foot {
+    pub d: f64,
+    pub q: Point,
+}
+
+// The curve G(s) = (n0/(s + r0))² + (z1/(s + 1))² - 1, whose root gives the nearest point of an ellipse.
+pub struct Curve {
+    pub n0: f64,
+    pub r0: f64,
+    pub z1: f64,
+}
+
+// The ends of an interval, its middle s, and G there.
+pub struct Bracket {
+    pub s0: f64,
+    pub s1: f64,
+    pub s: f64,
+    pub gs: f64,
 }
 
 // Vertex i of an outline's numbers.

@@ -1,12 +1,15 @@
--- Two lists related member by member. Assumes nothing.
-use mathlib.Core.Path.{_≡_, refl, ap}
-use mathlib.Core.Bool.{Bool, false, _||_}
+-- Lists related member by member, and lists whose members are all alike. Assumes nothing.
+use mathlib.Core.Path.{_≡_, refl, sym, ap, _∙_, subst}
+use mathlib.Core.Bool.{Bool, true, false, _||_}
 use mathlib.Core.List.{List, [], _∷_, reverse, reverseAux}
 use Prim.Native.Nat.{ℕ, zero, suc}
+use lib.Dec.{T}
 use lib.ListN.{length, take}
 use Rattle.boundary.specs.Folds.{fold, any}
 use Rattle.exact.specs.Grid.{Each}
 use Rattle.exact.specs.Grid.Each.{none, more}
+use Rattle.exact.specs.Distance.{Every}
+use Rattle.exact.specs.Distance.Every.{empty, also}
 
 module _ {A B : Type 0} {R : A → B → Type 0} where
   pub same-length : {xs : List A} {ys : List B} → Each R xs ys → length xs ≡ length ys
@@ -41,3 +44,24 @@ pub any-never : {A : Type 0} (xs : List A) → any (λ x. false) xs ≡ false
 unfolding any fold
 any-never [] = refl
 any-never (x ∷ xs) = any-never xs
+
+-- where no member passes a test, every member fails it
+module _ {A : Type 0} (p : A → Bool) where
+  stays : (xs : List A) → fold (λ b x. b || p x) true xs ≡ true
+  unfolding fold
+  stays [] = refl
+  stays (x ∷ xs) = stays xs
+
+  every-from : (b : Bool) (xs : List A) → fold (λ b x. b || p x) b xs ≡ false → Every (λ x. p x ≡ false) xs
+  unfolding fold
+  every-from b [] h = empty
+  every-from b (x ∷ xs) h = also (failed b (p x) h) (every-from (b || p x) xs h)
+    where
+      failed : (b c : Bool) → fold (λ b x. b || p x) (b || c) xs ≡ false → c ≡ false
+      failed b false h = refl
+      failed false true h = absurd (subst T (sym (stays xs) ∙ h) tt)
+      failed true true h = absurd (subst T (sym (stays xs) ∙ h) tt)
+
+  pub every-fails : (xs : List A) → any p xs ≡ false → Every (λ x. p x ≡ false) xs
+  unfolding any
+  every-fails xs h = every-from false xs h

@@ -11,11 +11,25 @@ pub mod Area
 pub mod Location
 -- Whole edges for an outline on the grid: `edges-on`.
 pub mod WholeEdges
+-- The signed distance of a point from any edges: `distance-near`.
+pub mod Distance
+-- The distance of a point from one edge: `edge-near`.
+pub mod EdgeDistance
+-- The exact distance is to the nearest point of the edge: `least-distance`.
+pub mod LeastDistance
 -- ---- what they rest on
 -- One edge and one point.
 pub mod OneEdge
 -- Where an edge crosses a point's height.
 pub mod Crossing
+-- The parameter of an edge's nearest point.
+pub mod Parameter
+-- Where a point stands along an edge.
+pub mod Standing
+-- The roundings of one distance, in whole numbers.
+pub mod Chain
+-- A point off an edge is apart from it.
+pub mod Apart
 -- Points on the line of an edge.
 pub mod Line
 -- Points between two ends.

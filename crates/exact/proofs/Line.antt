@@ -44,20 +44,23 @@ across a b q t = go (ltZ q b) refl (ltZ q a) refl t
     go false e false f t = absurd t
     go true e true f t = absurd t
 
--- a point on the line of an edge, at a height between its ends, is on the edge
-pub on-line : (e : EdgeZ) (p : PointZ) → Across (e .a .y) (e .b .y) (p .y) → turnZ e p ≡ pos 0 → T (onEdgeZ p e)
-unfolding onEdgeZ turnZ
-on-line e p h flat =
-    and-i (eqZ (turnZ e p) (pos 0)) (betweenZ (e .a .x) (e .b .x) (p .x) && betweenZ (e .a .y) (e .b .y) (p .y)) (→eqZ flat)
-    (and-i (betweenZ (e .a .x) (e .b .x) (p .x)) (betweenZ (e .a .y) (e .b .y) (p .y)) (product-between (e .a .x) (e .b .x) (p .x) sideways) (product-between (e .a .y) (e .b .y) (p .y) (h .product)))
-  where
-    multiplied : (u v d w r s : ℤ) → u *ℤ d ≡ w *ℤ r → v *ℤ d ≡ w *ℤ s → r *ℤ s ≦ pos 0 → u *ℤ v *ℤ (d *ℤ d) ≦ pos 0 *ℤ (d *ℤ d)
-    multiplied u v d w r s f g h = le-from (u ∷ v ∷ d ∷ w ∷ r ∷ s ∷ []) (eq (ap₂ _*ℤ_ f g) ∷ le (mul-le (sq-nonneg w) h) ∷ []) (search quote depth 30) (omega arith)
+-- u and v are w / d times r and s: their product is not above 0 where that of r and s is not
+pub product-scaled : (u v d w r s : ℤ) → pos 0 ≺ d *ℤ d → u *ℤ d ≡ w *ℤ r → v *ℤ d ≡ w *ℤ s → r *ℤ s ≦ pos 0 → u *ℤ v ≦ pos 0
+product-scaled u v d w r s d0 f g h = mul-cancel (d *ℤ d) (u *ℤ v) (pos 0) d0 (le-from (u ∷ v ∷ d ∷ w ∷ r ∷ s ∷ []) (eq (ap₂ _*ℤ_ f g) ∷ le (mul-le (sq-nonneg w) h) ∷ []) (search quote depth 30) (omega arith))
 
-    sideways : (p .x -ℤ e .a .x) *ℤ (p .x -ℤ e .b .x) ≦ pos 0
-    sideways =
-        let ρ = e .a .x ∷ e .a .y ∷ e .b .x ∷ e .b .y ∷ p .x ∷ p .y ∷ [] in
-        let d = e .a .y -ℤ e .b .y in
-        mul-cancel (d *ℤ d) ((p .x -ℤ e .a .x) *ℤ (p .x -ℤ e .b .x)) (pos 0) (h .square)
-        (multiplied (p .x -ℤ e .a .x) (p .x -ℤ e .b .x) d (e .a .x -ℤ e .b .x) (p .y -ℤ e .a .y) (p .y -ℤ e .b .y)
-        (eq-from ρ (eq flat ∷ []) (search quote depth 30) (omega arith)) (eq-from ρ (eq flat ∷ []) (search quote depth 30) (omega arith)) (h .product))
+-- a point on the line of an edge, and in the box of its ends, is on the edge
+pub on-edge : (e : EdgeZ) (p : PointZ) → turnZ e p ≡ pos 0 → (p .x -ℤ e .a .x) *ℤ (p .x -ℤ e .b .x) ≦ pos 0 → (p .y -ℤ e .a .y) *ℤ (p .y -ℤ e .b .y) ≦ pos 0 → T (onEdgeZ p e)
+unfolding onEdgeZ
+on-edge e p flat h k =
+    and-i (eqZ (turnZ e p) (pos 0)) (betweenZ (e .a .x) (e .b .x) (p .x) && betweenZ (e .a .y) (e .b .y) (p .y)) (→eqZ flat)
+    (and-i (betweenZ (e .a .x) (e .b .x) (p .x)) (betweenZ (e .a .y) (e .b .y) (p .y)) (product-between (e .a .x) (e .b .x) (p .x) h) (product-between (e .a .y) (e .b .y) (p .y) k))
+
+-- a height between the ends' heights is enough
+pub on-line : (e : EdgeZ) (p : PointZ) → Across (e .a .y) (e .b .y) (p .y) → turnZ e p ≡ pos 0 → T (onEdgeZ p e)
+unfolding turnZ
+on-line e p h flat =
+    let ρ = e .a .x ∷ e .a .y ∷ e .b .x ∷ e .b .y ∷ p .x ∷ p .y ∷ [] in
+    on-edge e p flat
+    (product-scaled (p .x -ℤ e .a .x) (p .x -ℤ e .b .x) (e .a .y -ℤ e .b .y) (e .a .x -ℤ e .b .x) (p .y -ℤ e .a .y) (p .y -ℤ e .b .y) (h .square)
+    (eq-from ρ (eq flat ∷ []) (search quote depth 30) (omega arith)) (eq-from ρ (eq flat ∷ []) (search quote depth 30) (omega arith)) (h .product))
+    (h .product)

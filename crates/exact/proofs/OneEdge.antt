@@ -28,10 +28,10 @@ use Rattle.exact.proofs.Between.{between-is, product-nearer}
 use Rattle.exact.proofs.Line.{Across, across, on-line}
 use Rattle.exact.proofs.Crossing.{lt-scaled, lt-beside, cleared, at-crossing, rounded-in, crossing-near}
 
-difference : {x y : Float} {z w : ℤ} → OnGrid x z → OnGrid y w → Sized 10 (2 ^ 21) (sub binary64 x y) (z -ℤ w)
+pub difference : {x y : Float} {z w : ℤ} → OnGrid x z → OnGrid y w → Sized 10 (2 ^ 21) (sub binary64 x y) (z -ℤ w)
 difference h g = sub-sized h g (lit≤ tt) (lit≤ tt)
 
-product : {x y : Float} {z w : ℤ} → Sized 10 (2 ^ 21) x z → Sized 10 (2 ^ 21) y w → Sized 20 (2 ^ 42) (mul binary64 x y) (z *ℤ w)
+pub product : {x y : Float} {z w : ℤ} → Sized 10 (2 ^ 21) x z → Sized 10 (2 ^ 21) y w → Sized 20 (2 ^ 42) (mul binary64 x y) (z *ℤ w)
 product h g = mul-sized h g (lit≤ tt) (lit≤ tt)
 
 module _ {e : Edge} {f : EdgeZ} {p : Point} {q : PointZ} (E : EdgeOn e f) (P : PointOn p q) where

@@ -1,22 +1,26 @@
--- Demand 3 of one outline that the tests accept, for area and location. Assumes nothing.
+-- Demand 3 of one outline that the tests accept. Assumes nothing.
 use mathlib.Core.Path.{_≡_, subst}
 use mathlib.Core.Bool.{false}
 use mathlib.Core.List.{List}
-use Prim.Native.Nat.{_≤_}
+use Prim.Native.Nat.{_<_, _≤_}
+use native.Mathlib.Omega.{arith}
 use borrow.Author.Tests.{ltb-false}
 use lib.Dec.{ltb}
 use lib.ListN.{length}
 use lib.Ieee.{Float}
 use Rattle.number.specs.Exact.{Is}
 use Rattle.boundary.specs.Outline.{count, edgeAt, edges}
+use Rattle.boundary.specs.Nearest.{nearestOf, signedOf}
 use Rattle.geometry.specs.declared.Verdict.the-variants.{Passed}
+use Rattle.geometry.specs.Polygon.{containsOf}
 use Rattle.geometry.specs.Refusals.{outlineTested, pointTested}
-use Rattle.geometry.specs.Answers.{answerFor, areaAnswer, locateAnswer}
+use Rattle.geometry.specs.Answers.{answerFor, areaAnswer, locateAnswer, distanceAnswer}
 use Rattle.exact.specs.Whole.{shoelaceZ}
 use Rattle.exact.specs.Grid.{OutlineOn}
 use Rattle.exact.specs.OneOutline.{GridExact}
 use Rattle.exact.proofs.Area.{area-exact}
 use Rattle.exact.proofs.Location.{location-exact}
+use Rattle.exact.proofs.Distance.{distance-near}
 use Rattle.exact.proofs.Loop.{length-run}
 use Rattle.exact.proofs.WholeEdges.{edges-on}
 use Rattle.exact.proofs.Tests.{grid-in-field, shape, accepted}
@@ -25,8 +29,12 @@ pub few-edges : (v : List Float) → ltb 4096 (count v) ≡ false → length (ed
 unfolding edges
 few-edges v h = rw (length-run (edgeAt v) 0 (count v)) (ltb-false 4096 (count v) h)
 
+some-edges : (v : List Float) → ltb (count v) 3 ≡ false → 0 < length (edges v)
+unfolding edges
+some-edges v h = rw (length-run (edgeAt v) 0 (count v)) (let l = ltb-false (count v) 3 h in omega arith)
+
 pub grid-exact : {v : List Float} {a : Float} → OutlineOn v → outlineTested v ≡ Passed a → GridExact v a
-unfolding areaAnswer locateAnswer answerFor pointTested
+unfolding areaAnswer locateAnswer distanceAnswer answerFor pointTested
 grid-exact {v} {a} g e =
     let s = shape v a (accepted v a e) in
     let w = edges-on g in
@@ -37,4 +45,5 @@ grid-exact {v} {a} g e =
       area-answer = rw e;
       location = λ P. location-exact (w .1) P;
       location-answer = λ P. rw (e, grid-in-field (P .x), grid-in-field (P .y), location-exact (w .1) P);
+      distance = λ {p} P. record { signed = signedOf (nearestOf (edges v) p) p (containsOf (edges v) p); answer = rw (e, grid-in-field (P .x), grid-in-field (P .y)); near = distance-near (w .1) P (some-edges v (s .enough)) (s .apart) };
     }

@@ -2,10 +2,11 @@
 use mathlib.Core.Path.{_≡_, refl}
 use mathlib.Core.Bool.{true, false}
 use mathlib.Core.List.{List, [], _∷_}
-use Prim.Native.Nat.{ℕ, _*_}
+use Prim.Native.Nat.{ℕ, _*_, _^_}
 use lib.IntN.{pos}
 use Rattle.boundary.specs.Folds.{fold, any, oddly}
 use Rattle.exact.specs.Whole.{PointZ, EdgeZ, edgeZ, crossZ, shoelaceZ, turnZ, betweenZ, onEdgeZ, boundaryZ, crossesZ, insideZ, locationZ}
+use Rattle.exact.specs.Distance.{numZ, denZ}
 
 -- (x, y) µm
 abbrev point : ℕ → ℕ → PointZ
@@ -35,3 +36,13 @@ slant : (onEdgeZ (point 1 2) (edgeZ (point 0 0) (point 2 4)) ≡ true) × (onEdg
     × (crossesZ (point 0 2) (edgeZ (point 2 4) (point 0 0)) ≡ true) × (crossesZ (point 2 2) (edgeZ (point 2 4) (point 0 0)) ≡ false)
 unfolding onEdgeZ turnZ betweenZ crossesZ
 slant = (refl, refl, refl, refl, refl, refl)
+
+-- squared distances from a slanting edge: 2 square µm before its first end, 5 past its second, and 10 ² / 20 beside it
+abbrev edge : EdgeZ
+edge = edgeZ (point 2 1) (point 4 5)
+
+squared-distances : (numZ edge (point 1 0) ≡ pos (2 * 2 ^ 20)) × (denZ edge (point 1 0) ≡ pos 1)
+    × (numZ edge (point 5 7) ≡ pos (5 * 2 ^ 20)) × (denZ edge (point 5 7) ≡ pos 1)
+    × (numZ edge (point 5 2) ≡ pos (10 * 10 * 2 ^ 40)) × (denZ edge (point 5 2) ≡ pos (20 * 2 ^ 20))
+unfolding numZ denZ turnZ
+squared-distances = (refl, refl, refl, refl, refl, refl)

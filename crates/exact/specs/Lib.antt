@@ -6,5 +6,7 @@ pub mod Whole
 pub mod Grid
 -- What holds of an outline on the grid.
 pub mod OneOutline
+-- The exact distance.
+pub mod Distance
 -- Worked examples.
 pub mod Examples

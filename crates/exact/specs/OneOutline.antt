@@ -1,4 +1,5 @@
--- Demand 3 of one outline, for area and location: on the grid both are exactly those of whole-number geometry. Definitions only.
+-- Demand 3 of one outline: on the grid area and location are exactly those of whole-number geometry, and the distance is within 2 ^ -24 of a step of
+-- the exact one. Definitions only.
 use mathlib.Core.Path.{_≡_}
 use mathlib.Core.List.{List}
 use lib.IntN.{ℤ}
@@ -6,18 +7,26 @@ use lib.Ieee.{Float}
 use Rattle.algebra.specs.Order.{absℤ}
 use Rattle.number.specs.Exact.{Is}
 use Rattle.boundary.specs.declared.Point.{Point}
+use Rattle.boundary.specs.declared.Distance.{Distance}
 use Rattle.boundary.specs.Outline.{edges}
-use Rattle.geometry.specs.declared.Answer.the-variants.{Told, Measure}
+use Rattle.geometry.specs.declared.Answer.the-variants.{Told, Measure, Away}
 use Rattle.geometry.specs.declared.Verdict.the-variants.{Passed}
 use Rattle.geometry.specs.Polygon.{areaOf, locateOf}
 use Rattle.geometry.specs.Refusals.{outlineTested}
-use Rattle.geometry.specs.Answers.{areaAnswer, locateAnswer}
+use Rattle.geometry.specs.Answers.{areaAnswer, locateAnswer, distanceAnswer}
 use Rattle.geometry.specs.Making.{kept}
 use Rattle.exact.specs.Whole.{PointZ, EdgeZ, shoelaceZ, locationZ}
 use Rattle.exact.specs.Grid.{PointOn, EdgesOn, OutlineOn}
+use Rattle.exact.specs.Distance.{SignedNear}
+
+-- what the distance query answers of v at p, and that it is near the exact distance of q from the edges fs
+pub record DistanceNear (v : List Float) (p : Point) (fs : List EdgeZ) (q : PointZ) : Type 0 where
+  pub signed : Distance
+  pub answer : distanceAnswer v p ≡ Away signed
+  pub near : SignedNear fs q (signed .d)
 
 -- The outline v, of area a. `whole` are its edges, in steps. The area is half their shoelace sum: a square step is 2 ^ -20 square µm, half of one 2 ^ -21.
--- Every point of the grid is where whole-number geometry has it. The operations answer so.
+-- Every point of the grid is where whole-number geometry has it, and as far away. The operations answer so.
 pub record GridExact (v : List Float) (a : Float) : Type 0 where
   pub whole : List EdgeZ
   pub on : EdgesOn (edges v) whole
@@ -25,6 +34,7 @@ pub record GridExact (v : List Float) (a : Float) : Type 0 where
   pub area-answer : areaAnswer v ≡ Measure a
   pub location : {p : Point} {q : PointZ} → PointOn p q → locateOf (edges v) p ≡ locationZ whole q
   pub location-answer : {p : Point} {q : PointZ} → PointOn p q → locateAnswer v p ≡ Told (locationZ whole q)
+  pub distance : {p : Point} {q : PointZ} → PointOn p q → DistanceNear v p whole q
 
 -- The outline w that is made of v: it is on the grid and passes tests 1 to 9, and its area is the magnitude of that before it was reversed
 pub record MadeOn (v w : List Float) : Type 0 where

@@ -6,5 +6,7 @@ pub mod Polygon
 pub mod Refusals
 -- What each operation answers, and the paper's number and values for it.
 pub mod Answers
+-- The nearest point of an ellipse.
+pub mod Ellipse
 -- Making an outline.
 pub mod Making

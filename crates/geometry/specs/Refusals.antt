@@ -13,7 +13,7 @@ use Rattle.boundary.specs.declared.Edge.{Edge}
 use Rattle.boundary.specs.Folds.{any}
 use Rattle.boundary.specs.Outline.{count, edges}
 use Rattle.geometry.specs.declared.Refusal.{Refusal}
-use Rattle.geometry.specs.declared.Refusal.the-variants.{OddCount, TooFew, TooMany, NotFinite, OutsideField, EqualNeighbours, ZeroArea, NegativeArea, BadPoint, ShortBuffer}
+use Rattle.geometry.specs.declared.Refusal.the-variants.{OddCount, TooFew, TooMany, NotFinite, OutsideField, EqualNeighbours, ZeroArea, NegativeArea, BadPoint, BadEllipse, ShortBuffer}
 use Rattle.geometry.specs.declared.Verdict.{Verdict}
 use Rattle.geometry.specs.declared.Verdict.the-variants.{Passed, Failed}
 use Rattle.geometry.specs.Polygon.{areaOf}
@@ -29,6 +29,7 @@ number EqualNeighbours = 7
 number ZeroArea = 8
 number NegativeArea = 9
 number BadPoint = 10
+number BadEllipse = 12
 number ShortBuffer = 13
 
 -- the *field* (document 01): every finite number of magnitude at most 1,048,576

@@ -1,8 +1,11 @@
 // Outlines (geometry.rs, `Polygon`): their tests, and what is worked out from them. Every answer is
 // an enum with the refusal.
+pub mod ellipse;
 pub mod polygon;
 pub mod refusals;
 
+use boundary::Distance;
+use boundary::Foot;
 use boundary::Point;
 
 // An axis-parallel box.
@@ -22,6 +25,7 @@ pub enum Refusal {
     ZeroArea,
     NegativeArea,
     BadPoint,
+    BadEllipse,
     ShortBuffer,
 }
 
@@ -31,10 +35,13 @@ pub enum Verdict {
     Failed(Refusal),
 }
 
-// What an operation answers: a count, flag or location, a measure, or a box.
+// What an operation answers: a count, flag or location, a measure, a box, a signed distance with
+// its normal, or a place and its distance.
 pub enum Answer {
     Refused(Refusal),
     Told(u32),
     Measure(f64),
     Box(Bounds),
+    Away(Distance),
+    Place(Foot),
 }

@@ -1,4 +1,4 @@
-// `Polygon`: making, area, bounds, perimeter, containment and location.
+// `Polygon`: making, area, bounds, perimeter, containment, location and distance.
 ghost use mathlib.Core.Path.{_≡_};
 ghost use mathlib.Core.Bool.{cond};
 ghost use Prim.Native.Nat.{_-_, _<_, _≤_};
@@ -6,7 +6,7 @@ ghost use lib.ListN.{length};
 ghost use Rattle.boundary.specs.Folds.{any};
 ghost use Rattle.boundary.specs.Outline.{vertices, edges};
 ghost use Rattle.geometry.specs.Polygon.{crossesOf, containsOf, lesser, greater, between, turnOf, onEdge, locateOf, nowhere, stretched, boundsOf};
-ghost use Rattle.geometry.specs.Answers.{areaAnswer, perimeterAnswer, boundsAnswer, containsAnswer, locateAnswer};
+ghost use Rattle.geometry.specs.Answers.{areaAnswer, perimeterAnswer, boundsAnswer, containsAnswer, locateAnswer, distanceAnswer};
 ghost use Rattle.geometry.specs.Making.{keptCount, turned, numbers, atFront, makeAnswer, madeList};
 use crate::Answer;
 use crate::Bounds;
@@ -176,6 +176,16 @@ pub fn locate(v: &[f64], p: Point) -> Answer
 {
     match refusals::point_tested(p, refusals::outline_tested(v)) {
         Verdict::Passed(_) => Answer::Told(location(v, p)),
+        Verdict::Failed(r) => Answer::Refused(r),
+    }
+}
+
+// The signed distance of p, negative where the outline contains it, and the normal.
+pub fn distance(v: &[f64], p: Point) -> Answer
+    ensures { λ r. ⌜ r ≡ distanceAnswer (now (v .entry)) p ⌝ }
+{
+    match refusals::point_tested(p, refusals::outline_tested(v)) {
+        Verdict::Passed(_) => Answer::Away(boundary::nearest::distance(v, p, holds(v, p))),
         Verdict::Failed(r) => Answer::Refused(r),
     }
 }

@@ -27,6 +27,7 @@ pub fn number_of(r: Refusal) -> u32
         Refusal::ZeroArea => 8,
         Refusal::NegativeArea => 9,
         Refusal::BadPoint => 10,
+        Refusal::BadEllipse => 12,
         Refusal::ShortBuffer => 13,
     }
 }

@@ -1,7 +1,9 @@
 // What an answer of the geometry puts into the fields of a call: a refusal gives its number, and
 // zeros.
 ghost use mathlib.Core.Path.{_≡_};
-ghost use Rattle.geometry.specs.Answers.{numberOf, toldOf, measureOf, zeroBox, boxOf};
+ghost use Rattle.geometry.specs.Answers.{numberOf, toldOf, measureOf, zeroBox, boxOf, zeroDistance, awayOf, zeroFoot, placeOf};
+use boundary::Distance;
+use boundary::Foot;
 use boundary::Point;
 use geometry::Answer;
 use geometry::Bounds;
@@ -15,6 +17,8 @@ pub fn number_of(a: Answer) -> u32
         Answer::Told(_) => 0,
         Answer::Measure(_) => 0,
         Answer::Box(_) => 0,
+        Answer::Away(_) => 0,
+        Answer::Place(_) => 0,
     }
 }
 
@@ -27,6 +31,8 @@ pub fn told_of(a: Answer) -> u32
         Answer::Told(n) => n,
         Answer::Measure(_) => 0,
         Answer::Box(_) => 0,
+        Answer::Away(_) => 0,
+        Answer::Place(_) => 0,
     }
 }
 
@@ -38,6 +44,8 @@ pub fn measure_of(a: Answer) -> f64
         Answer::Told(_) => 0.0,
         Answer::Measure(x) => x,
         Answer::Box(_) => 0.0,
+        Answer::Away(_) => 0.0,
+        Answer::Place(_) => 0.0,
     }
 }
 
@@ -58,5 +66,52 @@ pub fn box_of(a: Answer) -> Bounds
         Answer::Told(_) => zero_box(),
         Answer::Measure(_) => zero_box(),
         Answer::Box(b) => b,
+        Answer::Away(_) => zero_box(),
+        Answer::Place(_) => zero_box(),
+    }
+}
+
+fn zero_distance() -> Distance
+    ensures { λ r. ⌜ r ≡ zeroDistance ⌝ }
+{
+    Distance {
+        d: 0.0,
+        n: Point { x: 0.0, y: 0.0 },
+    }
+}
+
+pub fn away_of(a: Answer) -> Distance
+    ensures { λ r. ⌜ r ≡ awayOf a ⌝ }
+{
+    match a {
+        Answer::Refused(_) => zero_distance(),
+        Answer::Told(_) => zero_distance(),
+        Answer::Measure(_) => zero_distance(),
+        Answer::Box(_) => zero_distance(),
+        Answer::Away(d) => d,
+        Answer::Place(_) => zero_distance(),
+    }
+}
+
+fn zero_foot() -> Foot
+    ensures { λ r. ⌜ r ≡ zeroFoot ⌝ }
+{
+    Foot {
+        d: 0.0,
+        q: Point { x: 0.0, y: 0.0 },
+    }
+}
+
+// A place and its distance.
+pub fn place_of(a: Answer) -> Foot
+    ensures { λ r. ⌜ r ≡ placeOf a ⌝ }
+{
+    match a {
+        Answer::Refused(_) => zero_foot(),
+        Answer::Told(_) => zero_foot(),
+        Answer::Measure(_) => zero_foot(),
+        Answer::Box(_) => zero_foot(),
+        Answer::Away(_) => zero_foot(),
+        Answer::Place(f) => f,
     }
 }

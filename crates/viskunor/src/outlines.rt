@@ -1,8 +1,8 @@
-// Outlines: making, area, perimeter, bounds, containment and location. A call gives its refusal's
-// number, or 0, and an answer in the fields that it is lent; a refused call puts zeros there.
+// Outlines: making, area, perimeter, bounds, containment, location and distance. A call gives its
+// refusal's number, or 0, and an answer in the fields that it is lent; a refused call puts zeros there.
 ghost use mathlib.Core.Path.{_≡_};
 ghost use lib.ListN.{length};
-ghost use Rattle.geometry.specs.Answers.{numberOf, toldOf, measureOf, boxOf, areaAnswer, perimeterAnswer, boundsAnswer, containsAnswer, locateAnswer};
+ghost use Rattle.geometry.specs.Answers.{numberOf, toldOf, measureOf, boxOf, awayOf, areaAnswer, perimeterAnswer, boundsAnswer, containsAnswer, locateAnswer, distanceAnswer};
 ghost use Rattle.geometry.specs.Making.{makeAnswer, madeList};
 use crate::answers;
 use boundary::Point;
@@ -79,4 +79,26 @@ pub extern "C" fn vk_outline_locate(vertices: &[f64], x: f64, y: f64, location: 
     let locate_answer = geometry::polygon::locate(vertices, Point { x: x, y: y });
     *location = answers::told_of(locate_answer);
     answers::number_of(locate_answer)
+}
+
+#[no_mangle]
+pub extern "C" fn vk_outline_distance(
+    vertices: &[f64],
+    x: f64,
+    y: f64,
+    distance: &mut f64,
+    normal_x: &mut f64,
+    normal_y: &mut f64,
+) -> u32
+    ensures { λ r. ⌜ (r ≡ numberOf (distanceAnswer (now (vertices .entry)) (record { x = x; y = y })))
+        × (now (distance .exit) ≡ awayOf (distanceAnswer (now (vertices .entry)) (record { x = x; y = y })) .d)
+        × (now («normal_x» .exit) ≡ awayOf (distanceAnswer (now (vertices .entry)) (record { x = x; y = y })) .n .x)
+        × (now («normal_y» .exit) ≡ awayOf (distanceAnswer (now (vertices .entry)) (record { x = x; y = y })) .n .y) ⌝ }
+{
+    let distance_answer = geometry::polygon::distance(vertices, Point { x: x, y: y });
+    let a = answers::away_of(distance_answer);
+    *distance = a.d;
+    *normal_x = a.n.x;
+    *normal_y = a.n.y;
+    answers::number_of(distance_answer)
 }

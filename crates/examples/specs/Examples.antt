@@ -1,0 +1,153 @@
+-- Document 01's starred examples, as one list under one statement: what the definitions give is what the document says. Assumes nothing.
+use mathlib.Core.Path.{_≡_, refl, ap, _∙_}
+use mathlib.Core.Bool.{Bool, true, false}
+use mathlib.Core.List.{List, [], _∷_, map}
+use Prim.Native.Nat.{ℕ}
+use lib.IntN.{pos, negsuc}
+use lib.Ieee.{Float, fin, binary64, ofInt, neg, add, sub, mul, div, lt, le, eq, isNan}
+use Rattle.number.specs.Root.{sqrtOf}
+use Rattle.number.specs.Hypot.{hypotOf}
+use Rattle.number.specs.Signs.{signBit, withSign, absOf, copysignOf, before, maxOf, clampOf}
+use Rattle.boundary.specs.declared.Point.{Point}
+use Rattle.boundary.specs.declared.Near.{Near}
+use Rattle.boundary.specs.declared.Distance.{Distance}
+use Rattle.boundary.specs.Folds.{run, fold, any, oddly, total}
+use Rattle.boundary.specs.Outline.{vertices, edges}
+use Rattle.boundary.specs.Length.{edgeLength, lengthOf}
+use Rattle.boundary.specs.Nearest.{paramOf, alongOf, footOf, normalOf, lineNear, nearestOf, roundingOf, signedOf}
+use Rattle.boundary.specs.Ellipse.{quadrantNearest, onAxis, longNearest, ellipseNearest, ellipseFoot, ellipseNear}
+use Rattle.geometry.specs.declared.Answer.{Answer}
+use Rattle.geometry.specs.declared.Answer.the-variants.{Refused, Told, Measure, Away, Place}
+use Rattle.geometry.specs.declared.Refusal.the-variants.{ZeroArea}
+use Rattle.geometry.specs.Answers.{areaAnswer, perimeterAnswer, containsAnswer, locateAnswer, distanceAnswer, answerFor}
+use Rattle.geometry.specs.Polygon.{areaOf, containsOf, crossesOf, locateOf, onEdge}
+use Rattle.geometry.specs.Refusals.{outlineTested, signTested, shapeTested, valuesTested, areaTested, pointTested}
+use Rattle.geometry.specs.Making.{madeList}
+use Rattle.geometry.specs.Ellipse.{offsetFits, ellipseFits, ellipseAnswer}
+
+-- whole numbers of µm
+abbrev pub um : ℕ → Float
+unfolding ofInt
+um n = ofInt binary64 (pos n)
+
+abbrev pub list : List ℕ → List Float
+list ns = map um ns
+
+abbrev pub at : ℕ → ℕ → Point
+at x y = record { x = um x; y = um y }
+
+-- the double nearest to n / 10
+abbrev pub tenths : ℕ → Float
+unfolding div
+tenths n = div binary64 (um n) (um 10)
+
+-- a signed distance and its normal
+abbrev pub away : Float → Float → Float → Distance
+away d x y = record { d = d; n = record { x = x; y = y } }
+
+-- the square of the examples
+abbrev pub S : List Float
+S = list (0 ∷ 0 ∷ 4 ∷ 0 ∷ 4 ∷ 4 ∷ 0 ∷ 4 ∷ [])
+
+-- S listed the other way round
+abbrev pub S-back : List Float
+S-back = list (0 ∷ 0 ∷ 0 ∷ 4 ∷ 4 ∷ 4 ∷ 4 ∷ 0 ∷ [])
+
+-- the nearest point of the ellipse a = 2, b = 1, centre (0, 0)
+abbrev pub on-ellipse : Point → Answer
+on-ellipse p = ellipseAnswer (at 0 0) (um 2) (um 1) p
+
+-- what a call gives: an answer, or a lent list
+pub data Given : Type 0 where
+  answers : Answer → Given
+  leaves : List Float → Given
+
+-- what a call gives, and what the document says that it gives
+pub record Example : Type 0 where
+  pub gives : Given
+  pub said : Given
+
+infix 4 _⊢_
+abbrev pub _⊢_ : Given → Given → Example
+g ⊢ s = record { gives = g; said = s }
+
+-- the normal of (1,2) has y = -0: inside, both coordinates are negated
+unfoldable pub starred : List Example
+starred =
+    (answers (distanceAnswer S (at 6 2)) ⊢ answers (Away (away (um 2) (um 1) (um 0))))
+    ∷ (answers (distanceAnswer S (at 1 2)) ⊢ answers (Away (away (neg (um 1)) (neg (um 1)) (neg (um 0)))))
+    ∷ (answers (distanceAnswer S (at 7 8)) ⊢ answers (Away (away (um 5) (tenths 6) (tenths 8))))
+    ∷ (answers (areaAnswer S) ⊢ answers (Measure (um 16)))
+    ∷ (answers (perimeterAnswer S) ⊢ answers (Measure (um 16)))
+    ∷ (leaves (madeList S-back S-back) ⊢ leaves (list (4 ∷ 0 ∷ 4 ∷ 4 ∷ 0 ∷ 4 ∷ 0 ∷ 0 ∷ [])))
+    ∷ (answers (locateAnswer S (at 4 2)) ⊢ answers (Told 1))
+    ∷ (answers (containsAnswer S (at 4 2)) ⊢ answers (Told 0))
+    ∷ (answers (locateAnswer S (at 0 2)) ⊢ answers (Told 1))
+    ∷ (answers (containsAnswer S (at 0 2)) ⊢ answers (Told 1))
+    ∷ (answers (containsAnswer S (at 2 0)) ⊢ answers (Told 1))
+    ∷ (answers (containsAnswer S (at 2 4)) ⊢ answers (Told 0))
+    ∷ (answers (areaAnswer (list (0 ∷ 0 ∷ 1 ∷ 0 ∷ 2 ∷ 0 ∷ []))) ⊢ answers (Refused ZeroArea))
+    ∷ (answers (areaAnswer (list (0 ∷ 0 ∷ 2 ∷ 2 ∷ 2 ∷ 0 ∷ 0 ∷ 2 ∷ []))) ⊢ answers (Refused ZeroArea))
+    ∷ (answers (on-ellipse (record { x = um 0; y = neg (um 0) })) ⊢ answers (Place (record { d = um 1; q = record { x = um 0; y = neg (um 1) } })))
+    ∷ (answers (on-ellipse (at 3 0)) ⊢ answers (Place (record { d = um 1; q = at 2 0 })))
+    ∷ []
+
+-- ---- the distances by steps, since a magnitude that is not yet worked out is worked out at every use: the nearest point first
+nearest-6 : nearestOf (edges S) (at 6 2) ≡ record { d = um 2; q = at 4 2; n = record { x = um 1; y = neg (um 0) } }
+unfolding nearestOf lineNear footOf paramOf alongOf normalOf hypotOf sqrtOf clampOf edges run fold add sub mul div neg lt eq ofInt
+nearest-6 = refl
+
+nearest-1 : nearestOf (edges S) (at 1 2) ≡ record { d = um 1; q = at 0 2; n = record { x = neg (um 1); y = neg (um 0) } }
+unfolding nearestOf lineNear footOf paramOf alongOf normalOf hypotOf sqrtOf clampOf edges run fold add sub mul div neg lt eq ofInt
+nearest-1 = refl
+
+nearest-7 : nearestOf (edges S) (at 7 8) ≡ record { d = um 5; q = at 4 4; n = record { x = um 1; y = neg (um 0) } }
+unfolding nearestOf lineNear footOf paramOf alongOf normalOf hypotOf sqrtOf clampOf edges run fold add sub mul div neg lt eq ofInt
+nearest-7 = refl
+
+-- and then its sign
+signed-at : (p : Point) (inside : Bool) (c : Near) (d : Distance) → nearestOf (edges S) p ≡ c → signedOf c p inside ≡ d → Away (signedOf (nearestOf (edges S) p) p inside) ≡ Away d
+signed-at p inside c d e f = rw (e, f)
+
+signed-6 : signedOf (record { d = um 2; q = at 4 2; n = record { x = um 1; y = neg (um 0) } }) (at 6 2) false ≡ away (um 2) (um 1) (um 0)
+unfolding signedOf roundingOf absOf withSign maxOf before signBit isNan sub mul div neg lt eq ofInt
+signed-6 = refl
+
+signed-1 : signedOf (record { d = um 1; q = at 0 2; n = record { x = neg (um 1); y = neg (um 0) } }) (at 1 2) true ≡ away (neg (um 1)) (neg (um 1)) (neg (um 0))
+unfolding signedOf roundingOf absOf withSign maxOf before signBit isNan sub mul div neg lt eq ofInt
+signed-1 = refl
+
+six-tenths : tenths 6 ≡ fin false 5404319552844595 (negsuc 52)
+unfolding div ofInt
+six-tenths = refl
+
+eight-tenths : tenths 8 ≡ fin false 3602879701896397 (negsuc 51)
+unfolding div ofInt
+eight-tenths = refl
+
+signed-7 : signedOf (record { d = um 5; q = at 4 4; n = record { x = um 1; y = neg (um 0) } }) (at 7 8) false ≡ away (um 5) (fin false 5404319552844595 (negsuc 52)) (fin false 3602879701896397 (negsuc 51))
+unfolding signedOf roundingOf absOf withSign maxOf before signBit isNan sub mul div neg lt eq ofInt
+signed-7 = refl
+
+in-tenths : Away (away (um 5) (fin false 5404319552844595 (negsuc 52)) (fin false 3602879701896397 (negsuc 51))) ≡ Away (away (um 5) (tenths 6) (tenths 8))
+in-tenths = rw (six-tenths, eight-tenths)
+
+distance-6 : distanceAnswer S (at 6 2) ≡ Away (away (um 2) (um 1) (um 0))
+unfolding distanceAnswer answerFor outlineTested signTested shapeTested valuesTested areaTested pointTested areaOf containsOf crossesOf oddly any fold run edges add sub mul div neg lt le eq ofInt
+distance-6 = signed-at (at 6 2) false _ _ nearest-6 signed-6
+
+distance-1 : distanceAnswer S (at 1 2) ≡ Away (away (neg (um 1)) (neg (um 1)) (neg (um 0)))
+unfolding distanceAnswer answerFor outlineTested signTested shapeTested valuesTested areaTested pointTested areaOf containsOf crossesOf oddly any fold run edges add sub mul div neg lt le eq ofInt
+distance-1 = signed-at (at 1 2) true _ _ nearest-1 signed-1
+
+distance-7 : distanceAnswer S (at 7 8) ≡ Away (away (um 5) (tenths 6) (tenths 8))
+unfolding distanceAnswer answerFor outlineTested signTested shapeTested valuesTested areaTested pointTested areaOf containsOf crossesOf oddly any fold run edges add sub mul div neg lt le eq ofInt
+distance-7 = signed-at (at 7 8) false _ _ nearest-7 signed-7 ∙ in-tenths
+
+also : {g s : Given} {gs ss : List Given} → g ≡ s → gs ≡ ss → (g ∷ gs) ≡ (s ∷ ss)
+also e es = rw (e, es)
+
+-- every example holds
+pub starred-hold : map (λ (e : Example). e .gives) starred ≡ map (λ (e : Example). e .said) starred
+unfolding starred areaAnswer perimeterAnswer containsAnswer locateAnswer madeList answerFor outlineTested signTested shapeTested valuesTested areaTested pointTested areaOf containsOf crossesOf locateOf onEdge lengthOf edgeLength ellipseAnswer ellipseFits offsetFits ellipseNear ellipseFoot ellipseNearest longNearest quadrantNearest onAxis copysignOf absOf withSign signBit maxOf before hypotOf sqrtOf total any oddly fold run edges vertices add sub mul div neg lt le eq ofInt
+starred-hold = also (ap answers distance-6) (also (ap answers distance-1) (also (ap answers distance-7) refl))

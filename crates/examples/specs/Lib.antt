@@ -1,0 +1,4 @@
+-- What document 01 says by example.
+
+-- Its starred examples.
+pub mod Examples

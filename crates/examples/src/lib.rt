@@ -1,0 +1,1 @@
+// Laws only: document 01's starred examples hold of the definitions.

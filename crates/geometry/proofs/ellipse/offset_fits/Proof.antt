@@ -1,0 +1,16 @@
+-- `geometry::ellipse::offset_fits` meets its contract. Assumes nothing.
+use borrow.Author.Needs.{needs}
+use lib.Ieee.{ofBits}
+use Rattle.geometry.specs.Ellipse.{offsetFits}
+use Rattle.geometry.proofs.ellipse.offset_fits.Statement.{statement}
+use Rattle.geometry.proofs.ellipse.offset_fits.Tie as tie
+
+abs-requires : tie.Need-abs-requires
+abs-requires c κs = search needs
+
+returns : tie.Need-returns
+unfolding offsetFits ofBits
+returns c = rw (c .abs .ensures)
+
+pub offset-fits-spec : {M : Type 1} → statement M
+offset-fits-spec = tie.close (tie.spec abs-requires returns)

@@ -1,0 +1,47 @@
+-- The nearest point of an ellipse: tests 10 and 12 (document 01), and what the call answers. Definitions only.
+use mathlib.Core.Bool.{Bool, false, _&&_, _||_, cond}
+use lib.IntN.{pos, negsuc}
+use lib.Ieee.{Float, fin, binary64, sub, neg, le, eq}
+use Rattle.number.specs.Exact.{zeroᶠ}
+use Rattle.number.specs.Signs.{absOf}
+use Rattle.boundary.specs.declared.Point.{Point}
+use Rattle.boundary.specs.Ellipse.{ellipseNear}
+use Rattle.geometry.specs.declared.Answer.{Answer}
+use Rattle.geometry.specs.declared.Answer.the-variants.{Refused, Place}
+use Rattle.geometry.specs.declared.Refusal.the-variants.{BadPoint, BadEllipse}
+use Rattle.geometry.specs.Refusals.{inField}
+
+-- test 10, of the point and of the centre
+abbrev pub pointInField : Point → Bool
+pointInField p = inField (p .x) && inField (p .y)
+
+-- ---- test 12
+-- a semi-axis is 2 ^ -10 to 1,024
+abbrev pub leastAxis : Float
+leastAxis = fin false 1 (negsuc 9)
+
+abbrev pub mostAxis : Float
+mostAxis = fin false 1 (pos 10)
+
+abbrev pub axisFits : Float → Bool
+axisFits a = le leastAxis a && le a mostAxis
+
+-- a coordinate of point less centre, as computed, is zero or at least 2 ^ -20 in magnitude
+abbrev pub leastOffset : Float
+leastOffset = fin false 1 (negsuc 19)
+
+unfoldable pub offsetFits : Float → Float → Bool
+unfolding sub eq le absOf
+offsetFits c p = let d = sub binary64 p c in eq d zeroᶠ || le leastOffset (absOf d)
+
+unfoldable pub ellipseFits : Point → Float → Float → Point → Bool
+unfolding le offsetFits
+ellipseFits c a b p = (axisFits a && axisFits b) && (offsetFits (c .x) (p .x) && offsetFits (c .y) (p .y))
+
+-- ---- the ellipse with centre c and semi-axes a along x and b along y, and the point p
+unfoldable pub ellipseAnswer : Point → Float → Float → Point → Answer
+unfolding neg le ellipseFits ellipseNear
+ellipseAnswer c a b p =
+    cond (pointInField p && pointInField c)
+    (cond (ellipseFits c a b p) (Place (ellipseNear c a b p)) (Refused BadEllipse))
+    (Refused BadPoint)
