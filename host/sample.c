@@ -1,5 +1,8 @@
 /*
- * A sample host: calls each operation of Viskunor and prints what it answers.
+ * A sample host: calls each operation of Viskunor and prints what it answers,
+ * and draws how much of each cell of a grid an outline fills.
+ *   sample [PICTURE]
+ * PICTURE is where the drawing goes, an SVG (default: target/host/fill.svg).
  */
 #include <stdio.h>
 #include "viskunor.h"
@@ -29,8 +32,10 @@ static const char *reason(uint32_t number)
     case 8: return "no area";
     case 9: return "a negative area";
     case 10: return "a point outside the field";
+    case 11: return "a cell outside the field, or a minimum above its maximum";
     case 12: return "a bad semi-axis, or a point too close to an axis";
     case 13: return "a lent list that is too short";
+    case 14: return "a clipped list that is too long for a half of the buffer";
     default: return "?";
     }
 }
@@ -92,6 +97,20 @@ static void make(const char *name, const double *vertices, size_t len)
     printf(".\n");
 }
 
+/* Room for pieces in each half of a fill's buffer. */
+#define PIECES 32
+
+static void fill(const char *name, const double *vertices, size_t len, const double *cell, size_t pieces)
+{
+    double work[8 * PIECES], fill;
+    uint32_t number = vk_outline_fill(vertices, len, cell[0], cell[1], cell[2], cell[3], work, 8 * pieces, &fill);
+    if (number != 0)
+        printf("The fill of a cell by %s is turned away, number %u: %s.\n", name, (unsigned)number, reason(number));
+    else
+        printf("The area that %s fills of the cell from (%g, %g) to (%g, %g) is %.17g.\n", name, cell[0], cell[1],
+               cell[2], cell[3], fill);
+}
+
 static void outlines(void)
 {
     static const double square[] = { 0, 0, 4, 0, 4, 4, 0, 4 };
@@ -101,6 +120,10 @@ static void outlines(void)
     static const double crossed[] = { 0, 0, 2, 2, 2, 0, 0, 2 };
     static const double far_off[] = { 0, 0, 1048577, 0, 0, 4 };
     static const double arrow[] = { 0, 0, 6, 3, 0, 6, 2, 3 };
+    static const double across[] = { 1, 1, 3, 6 };
+    static const double outside[] = { 5, 5, 6, 6 };
+    static const double notch[] = { -1, 0, 1, 6 };
+    static const double exchanged[] = { 3, 1, 1, 6 };
 
     measures("The square", square, LENGTH(square));
     measures("The arrow", arrow, LENGTH(arrow));
@@ -124,6 +147,12 @@ static void outlines(void)
     distance("the square", square, LENGTH(square), 4, 1);
     distance("the arrow", arrow, LENGTH(arrow), 1, 3);
     distance("the arrow", arrow, LENGTH(arrow), 2097152, 2);
+    fill("the square", square, LENGTH(square), across, 4);
+    fill("the square", square, LENGTH(square), outside, 4);
+    fill("the square", square, LENGTH(square), exchanged, 4);
+    fill("the square", square, LENGTH(square), across, 3);
+    fill("the arrow", arrow, LENGTH(arrow), notch, 4);
+    fill("the arrow", arrow, LENGTH(arrow), notch, PIECES);
     make("The square gone round the other way", turned, LENGTH(turned));
     make("The square with its first vertex again at the end", closed, LENGTH(closed));
     make("A list of five numbers", square, 5);
@@ -148,10 +177,70 @@ static void ellipses(void)
     ellipse(2, 1, 0.5, 1e-18);
 }
 
-int main(void)
+#define COLUMNS 12
+#define ROWS 8
+#define PIXELS 60
+
+/* One cell: darker where more of it is filled, with its filled share in per cent. */
+static void draw_cell(FILE *out, int column, int row, double share)
+{
+    int x = PIXELS * column, y = PIXELS * (ROWS - 1 - row), light = (int)(255 - 155 * share);
+    fprintf(out, "<rect x='%d' y='%d' width='%d' height='%d' fill='rgb(%d,%d,255)' stroke='silver'/>\n",
+            x, y, PIXELS, PIXELS, light, light);
+    if (share >= 0.0005)
+        fprintf(out, "<text x='%d' y='%d' font-size='14' text-anchor='middle'>%.1f</text>\n",
+                x + PIXELS / 2, y + PIXELS / 2 + 5, 100 * share);
+}
+
+/* Every cell of the grid, and the outline over them; the number of the first refusal, or 0. */
+static uint32_t draw(FILE *out, const double *vertices, size_t len, double *filled)
+{
+    double work[8 * PIECES], fill;
+    size_t i;
+    int column, row;
+    fprintf(out, "<svg xmlns='http://www.w3.org/2000/svg' width='%d' height='%d' font-family='sans-serif'>\n",
+            PIXELS * COLUMNS, PIXELS * ROWS);
+    *filled = 0;
+    for (row = 0; row < ROWS; row++)
+        for (column = 0; column < COLUMNS; column++) {
+            uint32_t number = vk_outline_fill(vertices, len, column, row, column + 1, row + 1,
+                                              work, LENGTH(work), &fill);
+            if (number != 0)
+                return number;
+            draw_cell(out, column, row, fill);
+            *filled += fill;
+        }
+    fprintf(out, "<polygon fill='none' stroke='black' stroke-width='2' points='");
+    for (i = 0; i + 1 < len; i += 2)
+        fprintf(out, " %g,%g", PIXELS * vertices[i], PIXELS * (ROWS - vertices[i + 1]));
+    fprintf(out, "'/>\n</svg>\n");
+    return 0;
+}
+
+static int picture(const char *path)
+{
+    static const double bird[] = { 1, 1, 6, 0.5, 11, 2, 8, 3.5, 11.5, 6.5, 6, 5, 2.5, 7.5, 3.5, 4 };
+    double filled, area;
+    uint32_t number;
+    FILE *out = fopen(path, "w");
+    if (out == NULL) {
+        printf("%s cannot be written.\n", path);
+        return 1;
+    }
+    number = draw(out, bird, LENGTH(bird), &filled);
+    if (fclose(out) != 0 || number != 0 || vk_outline_area(bird, LENGTH(bird), &area) != 0) {
+        printf("%s is not complete.\n", path);
+        return 1;
+    }
+    printf("%s shows %d cells of area 1 and an outline, which fills %.12g of them; its area is %.12g.\n", path,
+           ROWS * COLUMNS, filled, area);
+    return 0;
+}
+
+int main(int argc, char **argv)
 {
     numbers();
     outlines();
     ellipses();
-    return 0;
+    return picture(argc > 1 ? argv[1] : "target/host/fill.svg");
 }

@@ -259,6 +259,43 @@ static void test_make(int line, const double *list, size_t len, size_t room,
     expect_space("vk_outline_make, made", line, made_space, made, 2 * (size_t)count);
 }
 
+/* The buffer of a fill, lent from the middle of a larger one. */
+#define MOST_WORK 32800
+
+static double work_space[MOST_WORK + 2 * GUARD];
+
+/* Both halves hold zeros where the call went as far as the clips; no other place has changed. */
+static void expect_work(int line, size_t room, int cleared)
+{
+    size_t zeros = cleared ? room / 8 * 8 : 0, i;
+    checks++;
+    for (i = 0; i < MOST_WORK + 2 * GUARD; i++) {
+        double want = i >= GUARD && i - GUARD < zeros ? 0.0 : from_bits(stale);
+        if (!same_bits(work_space[i], want)) {
+            failures++;
+            printf("vk_outline_fill, case %d: place %ld of the buffer is wrong\n", line, (long)i - GUARD);
+            return;
+        }
+    }
+}
+
+/* The fill of a cell (min x, min y, max x, max y) in a buffer of `room` numbers. */
+static void test_fill(int line, const double *list, size_t len, const double *cell, size_t room,
+                      uint32_t number, double want)
+{
+    double fill = from_bits(stale);
+    const double *lent = lend(list, len);
+    size_t i;
+    for (i = 0; i < MOST_WORK + 2 * GUARD; i++)
+        work_space[i] = from_bits(stale);
+    expect_word("vk_outline_fill", line,
+                vk_outline_fill(lent, len, cell[0], cell[1], cell[2], cell[3],
+                                room == 0 ? (double *)0 : work_space + GUARD, room, &fill), number);
+    expect("vk_outline_fill, fill", line, fill, to_bits(want));
+    expect_space("vk_outline_fill", line, lent_space, list, len);
+    expect_work(line, room, number == 0 || number == 14);
+}
+
 static const double square[] = { 0, 0, 4, 0, 4, 4, 0, 4 };
 static const double turned[] = { 0, 0, 0, 4, 4, 4, 4, 0 };
 static const double turned_made[] = { 4, 0, 4, 4, 0, 4, 0, 0 };
@@ -271,6 +308,10 @@ static const double bow_tie[] = { 0, 0, 2, 2, 2, 0, 0, 2 };
 static const double equal[] = { 0, 0, 4, 0, 4, 0, 4, 4 };
 static const double round_twice[] = { 0, 0, 4, 0, 4, 4, 0, 4, 0, 0, 4, 0, 4, 4, 0, 4 };
 static const double largest[] = { -1048576, -1048576, 1048576, -1048576, 1048576, 1048576, -1048576, 1048576 };
+/* teeth upwards, teeth to the left, and two loops, of which the left one runs clockwise */
+static const double crown[] = { 0, 0, 6, 0, 6, 3, 5, 1, 4, 3, 3, 1, 2, 3, 1, 1, 0, 3 };
+static const double rake[] = { 0, 0, 0, 6, -3, 6, -1, 5, -3, 4, -1, 3, -3, 2, -1, 1, -3, 0 };
+static const double loops[] = { 3, -3, 3, 3, -1, -1, -1, 1 };
 static const double tenths[] = { 0, 0.1, 0.1, 0.2, 0.3, 0, 0.1, 0.2 };
 static const double tenths_made[] = { 0.1, 0.2, 0.3, 0, 0.1, 0.2, 0, 0.1 };
 
@@ -394,6 +435,69 @@ static void outline_distances(void)
     test_distance(142, square, 5, 2, 2, 1, no_distance);
 }
 
+static void outline_fills(void)
+{
+    static const struct { double cell[4], fill; } cases[] = {
+        { { 1, 1, 3, 6 }, 6 }, { { 5, 5, 6, 6 }, 0 }, { { 0, 0, 4, 4 }, 16 }, { { -1, -1, 9, 9 }, 16 },
+        { { 2, 0, 4, 4 }, 8 }, { { 1, 1, 3, 3 }, 4 }, { { -1, -1, 1, 1 }, 1 }, { { 3, 3, 9, 9 }, 1 },
+        /* beside an edge, at a corner, without width */
+        { { 4, 0, 6, 4 }, 0 }, { { 4, 4, 5, 5 }, 0 }, { { 1, 1, 1, 3 }, 0 }, { { 2, 2, 2, 2 }, 0 },
+        { { -1048576, -1048576, 1048576, 1048576 }, 16 }
+    };
+    static const double across[4] = { 1, 1, 3, 6 };
+    static const double left_loop[4] = { -1, -1, 0, 1 };
+    static const double under_teeth[4] = { 0, 0, 6, 2 };
+    static const double beside_teeth[4] = { -2, 0, 0, 6 };
+    static const double half_of_teeth[4] = { -2, 3, 0, 6 };
+    double bad[4], cell[4], list[8];
+    int i, j;
+    size_t room;
+    for (i = 0; i < COUNT(cases); i++)
+        test_fill(i, LIST(square), cases[i].cell, 32, 0, cases[i].fill);
+    /* winding counts: twice round, and a loop that runs clockwise */
+    test_fill(20, LIST(round_twice), across, 64, 0, 12);
+    test_fill(21, LIST(loops), left_loop, 32, 0, -1);
+    /* every buffer about the limits: a piece per vertex, and the longest list's pieces */
+    for (room = 0; room <= 41; room++)
+        test_fill(100 + (int)room, LIST(square), across, room, room < 32 ? 13 : 0, room < 32 ? 0 : 6);
+    for (room = 62; room <= 113; room++) {
+        uint32_t number = room < 72 ? 13 : room < 104 ? 14 : 0;
+        test_fill(200 + (int)room, LIST(crown), under_teeth, room, number, number == 0 ? 10.5 : 0);
+        test_fill(400 + (int)room, LIST(rake), beside_teeth, room, number, number == 0 ? 10.5 : 0);
+        /* here the first list is the longest, not the last */
+        test_fill(600 + (int)room, LIST(rake), half_of_teeth, room, number, number == 0 ? 5.25 : 0);
+    }
+    /* the cell's refusal comes after the outline's and before the buffer's */
+    bad[0] = from_bits(not_a_number);
+    bad[1] = from_bits(infinity);
+    bad[2] = from_bits(past_field_end);
+    bad[3] = -from_bits(past_field_end);
+    for (i = 0; i < 4; i++)
+        for (j = 0; j < 4; j++) {
+            memcpy(cell, across, sizeof cell);
+            cell[i] = bad[j];
+            test_fill(800 + 4 * i + j, LIST(square), cell, 32, 11, 0);
+            test_fill(820 + 4 * i + j, LIST(square), cell, 0, 11, 0);
+            test_fill(840 + 4 * i + j, LIST(turned), cell, 32, 9, 0);
+            test_fill(860 + 4 * i + j, (const double *)0, 0, cell, 0, 3, 0);
+        }
+    for (i = 0; i < 2; i++) {
+        memcpy(cell, across, sizeof cell);
+        cell[i] = cell[i + 2] + 1;
+        test_fill(880 + i, LIST(square), cell, 32, 11, 0);
+    }
+    test_fill(890, square, 5, across, 40, 1, 0);
+    test_fill(891, square, 4, across, 40, 3, 0);
+    test_fill(892, LIST(closed), across, 40, 7, 0);
+    test_fill(893, LIST(flat), across, 40, 8, 0);
+    test_fill(894, LIST(turned), across, 0, 9, 0);
+    memcpy(list, square, sizeof list);
+    list[5] = from_bits(not_a_number);
+    test_fill(895, LIST(list), across, 40, 5, 0);
+    list[5] = from_bits(past_field_end);
+    test_fill(896, LIST(list), across, 40, 6, 0);
+}
+
 static void outline_making(void)
 {
     double list[8];
@@ -451,6 +555,7 @@ static void outline_sizes(void)
 {
     static double list[MOST];
     measures want = { 2047, 0, 0, 0, 4094, 1 };
+    static const double all[4] = { 0, 0, 4094, 1 };
     int i;
     comb(list, 4096);
     for (i = 0; i < 4096; i++)
@@ -460,6 +565,9 @@ static void outline_sizes(void)
     test_point(1, list, 8192, 4093, 0.5, 0, 0, 0);
     test_point(2, list, 8192, 4093, 0, 0, 1, 1);
     test_make(0, list, 8192, 8192, 0, 4096, list);
+    test_fill(0, list, 8192, all, 32767, 13, 0);
+    test_fill(1, list, 8192, all, 32768, 0, 2047);
+    test_fill(2, list, 8192, all, 32775, 0, 2047);
     /* with the first vertex again at the end: no query takes it, and making drops it */
     test_measures(1, list, 8194, 4, no_measures);
     test_make(1, list, 8194, 8194, 0, 4096, list);
@@ -469,6 +577,7 @@ static void outline_sizes(void)
     test_measures(3, list, 8193, 1, no_measures);
     test_point(3, list, 8194, 1, 0.5, 4, 0, 0);
     test_make(3, list, 8194, 8194, 4, 0, list);
+    test_fill(3, list, 8194, all, 32784, 4, 0);
     test_make(4, list, 8196, 8196, 4, 0, list);
     /* too many comes before what the numbers are */
     list[0] = from_bits(not_a_number);
@@ -486,9 +595,11 @@ static void exact_memory(int line, const double *list, size_t len, uint32_t coun
 {
     double *vertices = (double *)malloc(len * sizeof *vertices);
     double *made = (double *)malloc(len * sizeof *made);
-    double area, perimeter, min_x, min_y, max_x, max_y, distance, normal_x, normal_y;
+    double *work = (double *)malloc(4 * len * sizeof *work);
+    double area, perimeter, min_x, min_y, max_x, max_y, distance, normal_x, normal_y, fill;
+    size_t i;
     uint32_t inside, location, told;
-    if (vertices == NULL || made == NULL) {
+    if (vertices == NULL || made == NULL || work == NULL) {
         printf("no memory\n");
         exit(2);
     }
@@ -502,6 +613,11 @@ static void exact_memory(int line, const double *list, size_t len, uint32_t coun
                 vk_outline_distance(vertices, len, max_x, max_y + 1, &distance, &normal_x, &normal_y), 0);
     expect_word("vk_outline_make", line, vk_outline_make(vertices, len, made, len, &told), 0);
     expect_word("vk_outline_make, count", line, told, count);
+    expect_word("vk_outline_fill", line,
+                vk_outline_fill(vertices, len, min_x, min_y, max_x, max_y, work, 4 * len, &fill), 0);
+    expect("vk_outline_fill, fill", line, fill, to_bits(area));
+    for (i = 0; i < 4 * len; i++)
+        expect("vk_outline_fill, buffer", line, work[i], to_bits(0));
     checks++;
     if (!(area > 0 && perimeter > 0 && min_x < max_x && min_y < max_y && inside <= 1 && location <= 2
           && distance >= 1 && normal_x >= 0 && normal_y > 0)
@@ -509,6 +625,7 @@ static void exact_memory(int line, const double *list, size_t len, uint32_t coun
         failures++;
         printf("exact memory, case %d: a wrong answer\n", line);
     }
+    free(work);
     free(made);
     free(vertices);
 }
@@ -587,6 +704,7 @@ int main(void)
     outline_measures();
     outline_points();
     outline_distances();
+    outline_fills();
     outline_making();
     outline_sizes();
     outline_memory();

@@ -76,10 +76,10 @@ double vk_hypot(double a, double b);
  *   13  a lent list is shorter than it must be
  *
  * The answer fields, the last parameters, point to one number each. A refused
- * call writes zero (+0) to every answer field and leaves every list as it was.
- * No call changes the outline that it is lent. A pointer may be NULL where its
- * length is 0, and only there. No two of the things that a call is lent may
- * overlap.
+ * call writes zero (+0) to every answer field and leaves every list as it was,
+ * but for refusal 14 of vk_outline_fill, which clears its working space. No call
+ * changes the outline that it is lent. A pointer may be NULL where its length is
+ * 0, and only there. No two of the things that a call is lent may overlap.
  */
 
 /*
@@ -166,6 +166,27 @@ uint32_t vk_outline_distance(const double *vertices, size_t vertices_len, double
                              double *distance, double *normal_x, double *normal_y);
 
 /*
+ * How much of the cell min_x, min_y, max_x, max_y the outline fills: its edges
+ * are clipped at min_x, max_x, min_y and max_y, in this order, and the sum of
+ * (x of a + x of b) / 2 * (y of b - y of a) over the lines that are left is
+ * given. It counts winding, and it may be negative.
+ *   work: working space of two halves, the second right after the first. Each
+ *     has floor(work_len / 8) pieces of four numbers, and at least one piece per
+ *     vertex. After an accepted call and after refusal 14 both halves hold only
+ *     zeros; numbers past both, and the whole list after another refusal, are
+ *     unchanged.
+ *   fill: the filled area.
+ *   refusals: 1, 3 to 9; then
+ *   11  a number of the cell is outside the field or not finite, or a minimum is
+ *       above its maximum
+ *   13  a half has fewer pieces than the outline has vertices
+ *   14  one of the four clipped lists has more pieces than a half
+ */
+uint32_t vk_outline_fill(const double *vertices, size_t vertices_len,
+                         double min_x, double min_y, double max_x, double max_y,
+                         double *work, size_t work_len, double *fill);
+
+/*
  * Ellipses.
  *
  * An ellipse is given by its centre and its two semi-axes, semi_x along x and
@@ -194,6 +215,65 @@ uint32_t vk_outline_distance(const double *vertices, size_t vertices_len, double
 uint32_t vk_ellipse_nearest(double centre_x, double centre_y, double semi_x, double semi_y,
                             double x, double y,
                             double *nearest_x, double *nearest_y, double *distance);
+
+/*
+ * The box tree.
+ *
+ * A box, and a cell, is four numbers: min x, min y, max x, max y. A list holds
+ * 0 to 1,024 boxes, numbered from 0; its length counts numbers. The tree is
+ * over the boxes, each widened by 1e-9 times the largest of 1 and its numbers'
+ * magnitudes. More than four items are split at half their count, rounded down,
+ * in the order of the widened boxes' centres along the axis on which those
+ * spread wider (x on a tie), then of their numbers. A node is
+ *
+ *   corners  four numbers: the box around the widened boxes of all items below
+ *   links    first and count: a leaf has count items, from the place first of
+ *            items on, in ascending order; an inner node has count 0, and its
+ *            children are the nodes first and first + 1
+ *
+ * Node 0 is the root. Both children get their numbers at the split; then all
+ * below the first child get theirs, then all below the second. The one node
+ * over no boxes is a leaf with first 0, count 0, both minima plus infinity and
+ * both maxima minus infinity. An index buffer has 511 nodes (corners_len at
+ * least 2,044, links_len at least 1,022) and 1,024 items.
+ *
+ * Each call returns 0 where it is accepted, and the number of its refusal
+ * otherwise, tested in this order:
+ *
+ *    4  the list has more than 4,096 numbers
+ *   11  the list's length is no multiple of four, or a box or the cell has a
+ *       number not finite or outside the field, or a minimum above its maximum
+ *   13  a lent list is shorter than it must be
+ *
+ * A refused call writes zero to every answer field and leaves every list as it
+ * was. No two of the things that a call is lent may overlap.
+ */
+
+/*
+ * Builds the tree over the boxes. Places past the nodes and items used stay as
+ * they were.
+ *   refusals: 4, 11, 13.
+ *   node_count, item_count: the number of nodes, at most 511, and of boxes.
+ */
+uint32_t vk_index_build(const double *boxes, size_t boxes_len,
+                        double *corners, size_t corners_len, uint32_t *links, size_t links_len,
+                        uint32_t *items, size_t items_len, uint32_t *node_count, uint32_t *item_count);
+
+/*
+ * Lists every item of each leaf whose box shares a point with the cell, the
+ * first child's leaves first: every box that shares a point with the cell, and
+ * others of the same leaves. The tree is built in the lent index buffer, whose
+ * 511 nodes and 1,024 items hold only zeros after an accepted call; past them
+ * it stays as it was.
+ *   refusals: 4, 11, 13. 13: the index buffer, or list_len below 1,024.
+ *   list: gets the items' numbers; its places past those stay as they were.
+ *   count: how many there are.
+ */
+uint32_t vk_index_meeting(const double *boxes, size_t boxes_len,
+                          double min_x, double min_y, double max_x, double max_y,
+                          double *corners, size_t corners_len, uint32_t *links, size_t links_len,
+                          uint32_t *items, size_t items_len,
+                          uint32_t *list, size_t list_len, uint32_t *count);
 
 #ifdef __cplusplus
 }

@@ -6,6 +6,8 @@
 //! repetitions.
 #![allow(dead_code)] // the oracle's modules hold more than is timed yet
 
+mod ellipses;
+mod fills;
 #[path = "../../oracle/src/library.rs"]
 mod library;
 mod numbers;
@@ -23,5 +25,7 @@ fn main() {
     let mut table = table::Table::new();
     numbers::rows(&mut table);
     outlines::rows(&mut table);
+    ellipses::rows(&mut table);
+    fills::rows(&mut table);
     table.print();
 }

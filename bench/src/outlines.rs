@@ -36,7 +36,7 @@ fn staircase(n: usize) -> Vec<f64> {
     list
 }
 
-fn shapes() -> Vec<(&'static str, Vec<f64>)> {
+pub fn shapes() -> Vec<(&'static str, Vec<f64>)> {
     vec![
         (
             "rectangle",
@@ -69,7 +69,7 @@ fn points(list: &[f64]) -> Vec<[f64; 2]> {
 }
 
 /// A polygon of a copy of the points.
-fn polygon(list: &[Point]) -> Polygon {
+pub fn polygon(list: &[Point]) -> Polygon {
     Polygon::new(list.to_vec()).expect("an outline")
 }
 
@@ -106,8 +106,17 @@ fn rust_locate(list: &[Point], p: [f64; 2]) -> crate::standins::Location {
     polygon(list).locate(Point::um(p[0], p[1]))
 }
 
+#[inline(never)]
+fn rust_distance(list: &[Point], p: [f64; 2]) -> crate::standins::Distance {
+    polygon(list).distance(Point::um(p[0], p[1]))
+}
+
+fn each(points: &[[f64; 2]], call: impl FnMut([f64; 2])) {
+    black_box(points).iter().copied().for_each(call);
+}
+
 /// Has the compiler take the answer for used.
-fn keep<T>(answer: T) {
+pub fn keep<T>(answer: T) {
     black_box(answer);
 }
 
@@ -161,32 +170,25 @@ pub fn rows(table: &mut Table) {
             "contains",
             POINTS,
             times(
-                || {
-                    for p in black_box(&ask) {
-                        keep(library::contains(v(), *p, &mut told));
-                    }
-                },
-                || {
-                    for p in black_box(&ask) {
-                        keep(rust_contains(&rust, *p));
-                    }
-                },
+                || each(&ask, |p| keep(library::contains(v(), p, &mut told))),
+                || each(&ask, |p| keep(rust_contains(&rust, p))),
             ),
         );
         row(
             "locate",
             POINTS,
             times(
-                || {
-                    for p in black_box(&ask) {
-                        keep(library::locate(v(), *p, &mut told));
-                    }
-                },
-                || {
-                    for p in black_box(&ask) {
-                        keep(rust_locate(&rust, *p));
-                    }
-                },
+                || each(&ask, |p| keep(library::locate(v(), p, &mut told))),
+                || each(&ask, |p| keep(rust_locate(&rust, p))),
+            ),
+        );
+        let mut away = [0.0; 3];
+        row(
+            "distance",
+            POINTS,
+            times(
+                || each(&ask, |p| keep(library::distance(v(), p, &mut away))),
+                || each(&ask, |p| keep(rust_distance(&rust, p))),
             ),
         );
     }

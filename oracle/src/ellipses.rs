@@ -5,6 +5,7 @@ use crate::original::boundary;
 use crate::random::Random;
 use crate::refusals;
 use crate::report::{Report, hex_list};
+use crate::sample::Sample;
 use crate::standins::Hypot;
 
 const KINDS: u64 = 10;
@@ -69,6 +70,17 @@ fn rust([cx, cy, a, b, x, y]: [f64; 6]) -> [f64; 3] {
 /// Equal to the bit; but a zero may have either sign.
 fn equal(ours: [f64; 3], rust: [f64; 3]) -> bool {
     (0..3).all(|i| ours[i].to_bits() == rust[i].to_bits() || (ours[i] == 0.0 && rust[i] == 0.0))
+}
+
+/// Cases with the Rust's answers.
+pub fn sample(out: &mut Sample, seed: u64, count: u64) {
+    let mut r = Random::new(seed, "ellipses");
+    for i in 0..count {
+        let list = input(i % KINDS, &mut r);
+        let number = refusals::ellipse(list);
+        let answer = if number == 0 { rust(list) } else { [0.0; 3] };
+        out.measures("ellipse", &list, &[], number, &answer);
+    }
 }
 
 pub fn compare(report: &mut Report, seed: u64, cases: u64) {

@@ -49,6 +49,17 @@ mod exports {
             normal_x: *mut f64,
             normal_y: *mut f64,
         ) -> u32;
+        pub fn vk_outline_fill(
+            vertices: *const f64,
+            vertices_len: usize,
+            min_x: f64,
+            min_y: f64,
+            max_x: f64,
+            max_y: f64,
+            work: *mut f64,
+            work_len: usize,
+            fill: *mut f64,
+        ) -> u32;
 
         pub fn vk_ellipse_nearest(
             centre_x: f64,
@@ -146,6 +157,29 @@ pub fn distance(vertices: &[f64], [x, y]: [f64; 2], fields: &mut [f64; 3]) -> u3
             distance,
             normal_x,
             normal_y,
+        )
+    }
+}
+
+/// The cell is min x, min y, max x, max y; the list `work` is lent whole.
+#[inline]
+pub fn fill(
+    vertices: &[f64],
+    [min_x, min_y, max_x, max_y]: [f64; 4],
+    work: &mut [f64],
+    fill: &mut f64,
+) -> u32 {
+    unsafe {
+        exports::vk_outline_fill(
+            address(vertices),
+            vertices.len(),
+            min_x,
+            min_y,
+            max_x,
+            max_y,
+            address_mut(work),
+            work.len(),
+            fill,
         )
     }
 }

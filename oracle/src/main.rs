@@ -3,7 +3,8 @@
 //!
 //! options: --seed N       the cases' seed (default 1); 'time' takes one from the clock
 //!          --cases N      cases of each number operation (default 10,000,000); a fifth as many
-//!                         outlines, with thirteen calls on each, and a tenth as many ellipses
+//!                         outlines, with thirteen calls on each, a fifth as many outlines with a
+//!                         cell to fill, and a tenth as many ellipses
 //!          --sample N     no comparison: writes about N cases with the Rust's answers ..
 //!          --to FOLDER    .. to FOLDER/stdin and FOLDER/stdout
 //!
@@ -12,6 +13,7 @@
 #![allow(dead_code)] // the published modules hold more than is called yet
 
 mod ellipses;
+mod fills;
 mod library;
 mod numbers;
 mod original;
@@ -63,6 +65,8 @@ fn write_sample(seed: u64, count: u64, folder: PathBuf) -> ExitCode {
     let mut out = sample::Sample::default();
     numbers::sample(&mut out, seed, count);
     outlines::sample(&mut out, seed, count / 4);
+    ellipses::sample(&mut out, seed, count / 10);
+    fills::sample(&mut out, seed, count / 20);
     match out.write(&folder) {
         Ok(()) => ExitCode::SUCCESS,
         Err(e) => {
@@ -79,6 +83,7 @@ fn compare(seed: u64, cases: u64) -> ExitCode {
     numbers::compare(&mut report, seed, cases);
     outlines::compare(&mut report, seed, cases / 5);
     ellipses::compare(&mut report, seed, cases / 10);
+    fills::compare(&mut report, seed, cases / 5);
     let equal = report.finish();
     smallest::print();
     println!("{:.1} s", start.elapsed().as_secs_f64());

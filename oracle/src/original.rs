@@ -6,6 +6,15 @@ pub mod boundary {
     use std::f64::consts::TAU;
 
     include!(concat!(env!("VISKUNOR_ORIGINAL"), "/boundary.rs"));
+
+    /// How many pieces each of the four lists has that `fill` clips from a loop.
+    pub fn clipped(pieces: &[Piece], [lo, hi]: [P; 2]) -> [usize; 4] {
+        let a = clip(pieces, 0, lo[0], true);
+        let b = clip(&a, 0, hi[0], false);
+        let c = clip(&b, 1, lo[1], true);
+        let d = clip(&c, 1, hi[1], false);
+        [a.len(), b.len(), c.len(), d.len()]
+    }
 }
 
 pub mod geometry {
@@ -76,7 +85,9 @@ pub fn self_check() {
     assert!(s.contains(Point::um(0.0, 2.0)) && !s.contains(Point::um(4.0, 2.0)));
     assert_eq!(s.locate(Point::um(4.0, 2.0)), Location::Boundary);
     assert_eq!(s.distance(Point::um(7.0, 8.0)), Distance(5.0, [0.6, 0.8]));
-    assert_eq!(boundary::fill(&s.boundary(), [[1.0, 1.0], [3.0, 6.0]]), 6.0);
+    let across = [[1.0, 1.0], [3.0, 6.0]];
+    assert_eq!(boundary::fill(&s.boundary(), across), 6.0);
+    assert_eq!(boundary::clipped(&s.boundary()[0], across), [4, 4, 4, 4]);
     assert_eq!(
         boundary::ellipse_nearest(2.0, 1.0, [0.0, -0.0]),
         [0.0, -1.0]

@@ -312,7 +312,7 @@ pub fn sample(out: &mut Sample, seed: u64, count: u64) {
     let fixed = shapes::fixed().into_iter();
     let mut short = fixed.filter(|list| list.len() <= 16);
     let mut i = 0;
-    for _ in 0..count / 6 {
+    for _ in 0..count / 7 {
         let list = short.next().unwrap_or_else(|| {
             loop {
                 i += 1;
@@ -325,13 +325,16 @@ pub fn sample(out: &mut Sample, seed: u64, count: u64) {
         for query in [Query::Area, Query::Perimeter, Query::Bounds] {
             let a = query.rust(&list);
             let fields = if let Query::Bounds = query { 4 } else { 1 };
-            out.measures(query.name(), &list, a.number, &a.measures[..fields]);
+            out.measures(query.name(), &list, &[], a.number, &a.measures[..fields]);
         }
         let p = shapes::point(&list, &mut r);
         for query in [Query::Contains(p), Query::Locate(p)] {
             let a = query.rust(&list);
             out.told(query.name(), &list, p, a.number, a.told);
         }
+        let query = Query::Distance(p);
+        let a = query.rust(&list);
+        out.measures(query.name(), &list, &p, a.number, &a.measures[..3]);
         let room = room(list.len(), &mut r);
         let (a, mut made) = rust_make(&list, room);
         made.resize(room, 0.0);

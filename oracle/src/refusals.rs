@@ -1,4 +1,4 @@
-//! Document 01's tests of an outline and a point, "turned away, in checking order", read anew: each
+//! Document 01's tests of an outline, a point, a cell and a buffer, "turned away, in checking order", read anew: each
 //! runs over the whole outline before the next. Nothing here comes from the library.
 use crate::original::geometry;
 
@@ -51,6 +51,22 @@ pub fn query(list: &[f64], point: Option<[f64; 2]>) -> u32 {
     let outside = |x: f64| !(x.abs() <= FIELD);
     if point.is_some_and(|p| outside(p[0]) || outside(p[1])) {
         return 10;
+    }
+    0
+}
+
+/// What a fill gets before it clips, with a buffer of `room` numbers.
+pub fn fill(list: &[f64], [min_x, min_y, max_x, max_y]: [f64; 4], room: usize) -> u32 {
+    let number = query(list, None);
+    if number != 0 {
+        return number;
+    }
+    let range = |min: f64, max: f64| min.abs() <= FIELD && max.abs() <= FIELD && min <= max;
+    if !(range(min_x, max_x) && range(min_y, max_y)) {
+        return 11;
+    }
+    if room / 8 < list.len() / 2 {
+        return 13;
     }
     0
 }

@@ -28,12 +28,19 @@ impl Sample {
         self.answers += &format!("{answer}\n");
     }
 
-    /// A call on an outline that answers measures. A zero's sign is not compared: each is written
+    /// A call on an outline, or one with a point, or on an ellipse's numbers, that answers measures. A zero's sign is not compared: each is written
     /// as +0.
-    pub fn measures(&mut self, operation: &str, list: &[f64], number: u32, measures: &[f64]) {
+    pub fn measures(
+        &mut self,
+        operation: &str,
+        list: &[f64],
+        point: &[f64],
+        number: u32,
+        measures: &[f64],
+    ) {
         let measures: Vec<f64> = measures.iter().map(|x| x + 0.0).collect();
         let answer = format!("{number:x} {}", hex_list(&measures));
-        self.outline(operation, list, "", &answer);
+        self.outline(operation, list, &hex_list(point), &answer);
     }
 
     /// A call on an outline and a point that answers a flag or a location.
@@ -49,6 +56,13 @@ impl Sample {
             answer += &format!(" {}", hex(*x));
         }
         self.outline("make", list, &format!("{:x}", made.len()), &answer);
+    }
+
+    /// A call of fill, with a lent list of ones as long as `work`, which it turns into `work`.
+    pub fn fill(&mut self, list: &[f64], cell: [f64; 4], number: u32, fill: f64, work: &[f64]) {
+        let answer = format!("{number:x} {} {}", hex(fill + 0.0), hex_list(work));
+        let more = format!("{} {:x}", hex_list(&cell), work.len());
+        self.outline("fill", list, &more, answer.trim_end());
     }
 
     pub fn write(&self, folder: &Path) -> std::io::Result<()> {

@@ -1,5 +1,5 @@
-//! Outlines and points at random: shapes of many kinds, damaged copies of them, and points that are
-//! hard to tell.
+//! Outlines, points and cells at random: shapes of many kinds, damaged copies of them, points that are
+//! hard to tell and cells that are hard to fill.
 use crate::random::Random;
 use crate::refusals::FIELD;
 use std::f64::consts::TAU;
@@ -292,6 +292,81 @@ pub fn point(list: &[f64], r: &mut Random) -> [f64; 2] {
             if r.yes() { [x, a[1]] } else { [a[0], x] }
         }
     }
+}
+
+/// The least and the greatest of one coordinate, numbers that are not finite left out.
+fn range(list: &[f64], axis: usize) -> [f64; 2] {
+    let of_axis = list.iter().skip(axis).step_by(2);
+    of_axis
+        .filter(|x| x.is_finite())
+        .fold([f64::INFINITY, f64::NEG_INFINITY], |[low, high], x| {
+            [low.min(*x), high.max(*x)]
+        })
+}
+
+/// The extent of a cell along an axis, in any order.
+fn extent(kind: u64, list: &[f64], axis: usize, r: &mut Random) -> [f64; 2] {
+    let n = list.len() / 2;
+    let [low, high] = range(list, axis);
+    let wide = (high - low).abs() + f64::from_bits(1);
+    let i = r.below(n as u64) as usize;
+    let (a, b) = (list[2 * i + axis], list[2 * ((i + 1) % n) + axis]);
+    let other = list[2 * r.below(n as u64) as usize + axis];
+    let mut inner = || low + wide * unit(r).abs();
+    match kind {
+        // across, at random
+        0..3 => [inner(), inner()],
+        // vertices' own numbers: the cell's sides run along edges or through corners
+        3..6 => [a, other],
+        6 => [a, inner()],
+        7 => [near(a, r), near(other, r)],
+        // the outline's box, and cells that contain it
+        8 => [low, high],
+        9 => [low - wide * unit(r).abs(), high + wide * unit(r).abs()],
+        // cells that touch the outline from outside, and that miss it
+        10 => [high, high + wide],
+        11 => [high + wide * unit(r).abs(), high + 2.0 * wide],
+        // a small cell about a corner, or about the middle of an edge
+        12 => [a - wide / 16.0, a + wide * unit(r).abs() / 8.0],
+        13 => [(a + b) / 2.0 - wide / 32.0, (a + b) / 2.0 + wide / 16.0],
+        // no width
+        14 => [a, a],
+        15 => {
+            let x = inner();
+            [x, x]
+        }
+        // whole steps of the grid
+        16 | 17 => [(a * 1024.0).floor() / 1024.0, other.round()],
+        18 => [-FIELD, FIELD],
+        _ => [unit(r) * FIELD, unit(r) * FIELD],
+    }
+}
+
+/// A cell for the outline: min x, min y, max x, max y.
+pub fn cell(list: &[f64], r: &mut Random) -> [f64; 4] {
+    if list.len() < 2 {
+        return [0.0, 0.0, 1.0, 1.0];
+    }
+    let kind = r.below(20);
+    // mostly of one kind along both axes
+    let kinds = [kind, if r.below(4) == 0 { r.below(20) } else { kind }];
+    let mut cell = [0.0; 4];
+    for axis in 0..2 {
+        let [a, b] = extent(kinds[axis], list, axis, r);
+        (cell[axis], cell[axis + 2]) = if a <= b { (a, b) } else { (b, a) };
+    }
+    // one that is turned away
+    if r.below(24) == 0 {
+        let odd = [f64::NAN, f64::INFINITY, FIELD.next_up()];
+        let x = r.pick(&odd);
+        let place = r.below(4) as usize;
+        match r.below(3) {
+            0 => cell.swap(place, (place + 2) % 4),
+            1 => cell[place] = f64::from_bits(r.bits()),
+            _ => cell[place] = r.signed(x),
+        }
+    }
+    cell
 }
 
 /// Outlines that every run compares: document 01's examples and the ends of its sizes.

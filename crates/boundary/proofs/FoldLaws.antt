@@ -1,8 +1,8 @@
 -- Folds by a loop: what is left to fold gives the final answer, one member is taken at each turn, and at the end nothing is left. Assumes nothing.
-use mathlib.Core.Path.{_≡_, refl}
+use mathlib.Core.Path.{_≡_, refl, ap, _∙_}
 use mathlib.Core.Bool.{Bool, true, false, _||_, true≢false}
-use mathlib.Core.List.{List, [], _∷_}
-use Prim.Native.Nat.{ℕ, suc, _+_, _-_, _≤_, _<_}
+use mathlib.Core.List.{List, [], _∷_, _++_}
+use Prim.Native.Nat.{ℕ, zero, suc, _+_, _-_, _≤_, _<_}
 use native.Mathlib.Numerals.{add-one}
 use native.Mathlib.Omega.{arith}
 use lib.ListN.{length, getD, drop}
@@ -27,6 +27,33 @@ module _ {A B : Type 0} (f : A → B → A) where
   pub fold-drop-end : (a : A) (v : List B) (i : ℕ) → i ≤ length v → length v ≤ i → fold f a (drop i v) ≡ a
   unfolding fold
   fold-drop-end a v i l h = let e : i ≡ length v = omega arith in rw (e, drop-length)
+
+  -- where the order of two members does not matter, the last may come first
+  pub fold-last : ((a : A) (x y : B) → f (f a x) y ≡ f (f a y) x) → (a : A) (x : B) (xs : List B) → fold f a (xs ++ (x ∷ [])) ≡ fold f (f a x) xs
+  unfolding fold
+  fold-last free a x [] = refl
+  fold-last free a x (y ∷ xs) = fold-last free (f a y) x xs ∙ ap (λ t. fold f t xs) (free a y x)
+
+-- where no member passes a test, the i-th does not
+module _ {A : Type 0} (p : A → Bool) where
+  or-none : (a b : Bool) → (a || b) ≡ false → (a ≡ false) × (b ≡ false)
+  or-none false false e = (refl, refl)
+  or-none false true e = absurd (true≢false e)
+  or-none true b e = absurd (true≢false e)
+
+  fold-first : (b : Bool) (xs : List A) → fold (λ c x. c || p x) b xs ≡ false → b ≡ false
+  unfolding fold
+  fold-first b [] e = e
+  fold-first b (x ∷ xs) e = or-none b (p x) (fold-first (b || p x) xs e) .0
+
+  fold-at : (d : A) (b : Bool) (xs : List A) (i : ℕ) → i < length xs → fold (λ c x. c || p x) b xs ≡ false → p (getD xs i d) ≡ false
+  unfolding fold
+  fold-at d b (x ∷ xs) zero l e = or-none b (p x) (fold-first (b || p x) xs e) .1
+  fold-at d b (x ∷ xs) (suc i) l e = fold-at d (b || p x) xs i (omega arith) e
+
+  pub any-at : (d : A) (xs : List A) (i : ℕ) → i < length xs → any p xs ≡ false → p (getD xs i d) ≡ false
+  unfolding any
+  any-at d xs i l e = fold-at d false xs i l e
 
 or-weaker : (a b c d : Bool) → (b ≡ false → a ≡ false) → (d ≡ false → c ≡ false) → (b || d) ≡ false → (a || c) ≡ false
 or-weaker a false c false h k e = rw (h refl, k refl)

@@ -1,25 +1,35 @@
 -- Laws of `halve`, one for each way a turn of the loop goes. Assumes nothing.
-use mathlib.Core.Path.{_≡_, refl}
-use mathlib.Core.Bool.{Bool, true, false}
-use Prim.Native.Nat.{ℕ, zero, suc, _+_, _-_, _<_}
+use mathlib.Core.Path.{_≡_}
+use mathlib.Core.Bool.{true, false, _||_}
+use Prim.Native.Nat.{ℕ, suc, _+_, _-_, _<_, _≤_}
 use native.Mathlib.Omega.{arith}
+use lib.Ieee.{Float, lt, eq}
+use Rattle.number.specs.Exact.{zeroᶠ}
 use Rattle.boundary.specs.declared.Curve.{Curve}
-use Rattle.boundary.specs.declared.Bracket.{Bracket}
-use Rattle.boundary.specs.Ellipse.{halve, narrowedOf, doneOf}
+use Rattle.boundary.specs.Ellipse.{curveAt, middle, halve}
 
-module _ (c : Curve) (k : Bracket) where
-  -- done
-  pub halve-done : (n : ℕ) → halve c n true k ≡ k .s
-  unfolding halve
-  halve-done zero = refl
-  halve-done (suc n) = refl
+-- no halvings are left
+pub halve-end : (c : Curve) (n i : ℕ) (s s0 s1 : Float) → n ≤ i → halve c (n - i) s s0 s1 ≡ s
+unfolding halve
+halve-end c n i s s0 s1 l = let e : n - i ≡ 0 = omega arith in rw e
 
-  -- no halvings left
-  pub halve-end : (done : Bool) → halve c 0 done k ≡ k .s
-  unfolding halve
-  halve-end done = refl
+-- one more, with the middle m: it is an end, G is above zero there, below, or neither
+module _ (c : Curve) (n i : ℕ) (s s0 s1 m : Float) (l : i < n) (is : m ≡ middle s0 s1) where
+  left : n - i ≡ suc (n - (i + 1))
+  left = omega arith
 
-  -- one more
-  pub halve-next : (n i : ℕ) → i < n → halve c (n - i) false k ≡ halve c (n - (i + 1)) (doneOf (narrowedOf c k)) (narrowedOf c k)
+  pub halve-met : (eq m s0 || eq m s1) ≡ true → halve c (n - i) s s0 s1 ≡ m
   unfolding halve
-  halve-next n i l = let e : n - i ≡ suc (n - (i + 1)) = omega arith in rw e
+  halve-met e = rw (left, ← is, e)
+
+  pub halve-above : (eq m s0 || eq m s1) ≡ false → lt zeroᶠ (curveAt c m) ≡ true → halve c (n - i) s s0 s1 ≡ halve c (n - (i + 1)) m m s1
+  unfolding halve
+  halve-above e a = rw (left, ← is, e, a)
+
+  pub halve-below : (eq m s0 || eq m s1) ≡ false → lt zeroᶠ (curveAt c m) ≡ false → lt (curveAt c m) zeroᶠ ≡ true → halve c (n - i) s s0 s1 ≡ halve c (n - (i + 1)) m s0 m
+  unfolding halve
+  halve-below e a b = rw (left, ← is, e, a, b)
+
+  pub halve-root : (eq m s0 || eq m s1) ≡ false → lt zeroᶠ (curveAt c m) ≡ false → lt (curveAt c m) zeroᶠ ≡ false → halve c (n - i) s s0 s1 ≡ m
+  unfolding halve
+  halve-root e a b = rw (left, ← is, e, a, b)

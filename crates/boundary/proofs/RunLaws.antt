@@ -11,6 +11,12 @@ module _ {A : Type 0} where
   run-last f i zero = let e : i + 0 ≡ i = omega arith in rw e
   run-last f i (suc k) = let e : i + suc k ≡ suc i + k = omega arith in rw e (ap (λ (xs : List A). f i ∷ xs) (run-last f (suc i) k))
 
+  -- one later
+  pub run-later : (f g : ℕ → A) (i k : ℕ) → ((j : ℕ) → j < i + k → f (suc j) ≡ g j) → run f (suc i) k ≡ run g i k
+  unfolding run
+  run-later f g i zero later = refl
+  run-later f g i (suc k) later = rw (later i (omega arith), run-later f g (suc i) k (λ j l. later j (omega arith)))
+
   -- g counts down where f counts up
   pub reverse-run : (f g : ℕ → A) (i k : ℕ) → ((j : ℕ) → j < k → g j ≡ f (i + (k - 1 - j))) → reverse (run f i k) ≡ run g 0 k
   unfolding run

@@ -1,5 +1,5 @@
 -- The nearest point of an ellipse whose axes lie along x and y (document 01, boundary.rs): `ellipse_nearest` in the Rust's names and order. Definitions only.
-use mathlib.Core.Bool.{Bool, true, false, not, _||_, cond}
+use mathlib.Core.Bool.{false, _||_, cond}
 use Prim.Native.Nat.{ℕ, zero, suc}
 use lib.IntN.{negsuc}
 use lib.Ieee.{Float, fin, binary64, add, sub, mul, div, lt, eq}
@@ -9,9 +9,8 @@ use Rattle.number.specs.Hypot.{hypotOf}
 use Rattle.number.specs.Signs.{absOf, copysignOf, maxOf}
 use Rattle.boundary.specs.declared.Point.{Point}
 use Rattle.boundary.specs.declared.Curve.{Curve}
-use Rattle.boundary.specs.declared.Bracket.{Bracket}
-use Rattle.boundary.specs.declared.Foot.{Foot}
-use Rattle.boundary.specs.Nearest.{one}
+use Rattle.boundary.specs.declared.Near.{Near}
+use Rattle.boundary.specs.Line.{one}
 
 abbrev pub half : Float
 half = fin false 1 (negsuc 0)
@@ -27,32 +26,23 @@ excess x y = sub binary64 (add binary64 (square x) (square y)) one
 unfoldable pub curveAt : Curve → Float → Float
 curveAt c s = excess (div binary64 (c .n0) (add binary64 s (c .r0))) (div binary64 (c .z1) (add binary64 s one))
 
--- the bracket from s0 to s1, with its middle and G there
-unfoldable pub bracketOf : Curve → Float → Float → Bracket
-unfolding curveAt
-bracketOf c s0 s1 = let s = mul binary64 half (add binary64 s0 s1) in record { s0 = s0; s1 = s1; s = s; gs = curveAt c s }
+abbrev pub middle : Float → Float → Float
+middle s0 s1 = mul binary64 half (add binary64 s0 s1)
 
--- halving stops where the middle is an end, or G there is neither above nor below zero
-unfoldable pub doneOf : Bracket → Bool
-unfolding eq lt
-doneOf k = (eq (k .s) (k .s0) || eq (k .s) (k .s1)) || not (lt zeroᶠ (k .gs) || lt (k .gs) zeroᶠ)
+-- at most so many halvings of s0 to s1, where s is the last middle; they end where the middle is an end, or G there is neither above nor below zero
+unfoldable pub halve : Curve → ℕ → Float → Float → Float → Float
+unfolding curveAt eq lt
+halve c zero s s0 s1 = s
+halve c (suc n) s s0 s1 =
+    let m = middle s0 s1 in
+    let gs = curveAt c m in
+    cond (eq m s0 || eq m s1) m
+    (cond (lt zeroᶠ gs) (halve c n m m s1)
+    (cond (lt gs zeroᶠ) (halve c n m s0 m) m))
 
--- the half that has the root
-unfoldable pub narrowedOf : Curve → Bracket → Bracket
-unfolding bracketOf lt
-narrowedOf c k = cond (lt zeroᶠ (k .gs)) (bracketOf c (k .s) (k .s1)) (bracketOf c (k .s0) (k .s))
-
--- the last middle after at most so many more halvings; the `Bool` says whether the bracket is done
-unfoldable pub halve : Curve → ℕ → Bool → Bracket → Float
-unfolding doneOf narrowedOf
-halve c zero done k = k .s
-halve c (suc n) true k = k .s
-halve c (suc n) false k = let m = narrowedOf c k in halve c n (doneOf m) m
-
--- 1,100 middles at most: that of s0 and s1, and 1,099 more
 unfoldable pub halvedOf : Curve → Float → Float → Float
-unfolding halve bracketOf doneOf
-halvedOf c s0 s1 = let k = bracketOf c s0 s1 in halve c 1099 (doneOf k) k
+unfolding halve
+halvedOf c s0 s1 = halve c 1100 s0 s0 s1
 
 -- ---- the first quadrant, with a ≥ b: the point nearest to (y0, y1)
 -- where the root is sought: from z1 - 1 to 0 for a point inside, and to √(n0² + z1²) - 1 for one outside
@@ -64,7 +54,7 @@ unfoldable pub curveOf : Float → Float → Float → Float → Curve
 curveOf a b z0 z1 = let r0 = square (div binary64 a b) in record { n0 = mul binary64 r0 z0; r0 = r0; z1 = z1 }
 
 unfoldable pub rootIn : Curve → Float → Float
-unfolding halvedOf upperEnd
+unfolding upperEnd
 rootIn c g = halvedOf c (sub binary64 (c .z1) one) (upperEnd g (c .n0) (c .z1))
 
 -- the point that a root s stands for
@@ -119,6 +109,7 @@ ellipseFoot c a b p =
     let q = ellipseNearest a b (record { x = sub binary64 (p .x) (c .x); y = sub binary64 (p .y) (c .y) }) in
     record { x = add binary64 (c .x) (q .x); y = add binary64 (c .y) (q .y) }
 
-unfoldable pub ellipseNear : Point → Float → Float → Point → Foot
+-- document 01 gives an ellipse no normal: it has (1, 0), as a line without length has
+unfoldable pub ellipseNear : Point → Float → Float → Point → Near
 unfolding ellipseFoot hypotOf
-ellipseNear c a b p = let q = ellipseFoot c a b p in record { d = hypotOf (sub binary64 (p .x) (q .x)) (sub binary64 (p .y) (q .y)); q = q }
+ellipseNear c a b p = let q = ellipseFoot c a b p in record { d = hypotOf (sub binary64 (p .x) (q .x)) (sub binary64 (p .y) (q .y)); q = q; n = record { x = one; y = zeroᶠ } }

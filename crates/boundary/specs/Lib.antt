@@ -6,7 +6,15 @@ pub mod Folds
 pub mod Outline
 -- The length of edges.
 pub mod Length
--- The nearest point of a line, and the signed distance.
-pub mod Nearest
+-- The nearest point of a line.
+pub mod Line
 -- The nearest point of an ellipse.
 pub mod Ellipse
+-- A line or an ellipse.
+pub mod Piece
+-- The signed distance.
+pub mod Nearest
+-- How the nearest edge is found.
+pub mod Search
+-- The field, and boxes: widened, and how far a point is from one.
+pub mod Boxes

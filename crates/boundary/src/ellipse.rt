@@ -1,9 +1,8 @@
 // The nearest point of an ellipse whose axes lie along x and y, in the Rust's order of operations.
 ghost use mathlib.Core.Path.{_≡_};
-ghost use Rattle.boundary.specs.Ellipse.{excess, curveAt, bracketOf, doneOf, narrowedOf, halvedOf, upperEnd, curveOf, rootIn, footAt, offAxes, onAxis, quadrantNearest, longNearest, ellipseNearest, ellipseFoot, ellipseNear};
-use crate::Bracket;
+ghost use Rattle.boundary.specs.Ellipse.{excess, curveAt, middle, halvedOf, upperEnd, curveOf, rootIn, footAt, offAxes, onAxis, quadrantNearest, longNearest, ellipseNearest, ellipseFoot, ellipseNear};
 use crate::Curve;
-use crate::Foot;
+use crate::Near;
 use crate::Point;
 use number::root::hypot;
 use number::root::sqrt;
@@ -24,45 +23,36 @@ fn curve_at(c: Curve, s: f64) -> f64
     excess_of(c.n0 / (s + c.r0), c.z1 / (s + 1.0))
 }
 
-fn bracket_of(c: Curve, s0: f64, s1: f64) -> Bracket
-    ensures { λ r. ⌜ r ≡ bracketOf c s0 s1 ⌝ }
+fn middle_of(s0: f64, s1: f64) -> f64
+    ensures { λ r. ⌜ r ≡ middle s0 s1 ⌝ }
 {
-    let s = 0.5 * (s0 + s1);
-    let gs = curve_at(c, s);
-    Bracket { s0, s1, s, gs }
+    0.5 * (s0 + s1)
 }
 
-// Whether halving stops here.
-fn is_done(k: Bracket) -> bool
-    ensures { λ r. ⌜ r ≡ doneOf k ⌝ }
+// The root of G from a to b.
+fn halved(c: Curve, a: f64, b: f64) -> f64
+    ensures { λ r. ⌜ r ≡ halvedOf c a b ⌝ }
 {
-    ((k.s == k.s0) | (k.s == k.s1)) | !((k.gs > 0.0) | (k.gs < 0.0))
-}
-
-// The half that has the root.
-fn narrowed(c: Curve, k: Bracket) -> Bracket
-    ensures { λ r. ⌜ r ≡ narrowedOf c k ⌝ }
-{
-    if k.gs > 0.0 {
-        return bracket_of(c, k.s, k.s1);
-    }
-    bracket_of(c, k.s0, k.s)
-}
-
-// The root of G between s0 and s1.
-fn halved(c: Curve, s0: f64, s1: f64) -> f64
-    ensures { λ r. ⌜ r ≡ halvedOf c s0 s1 ⌝ }
-{
-    let mut k = bracket_of(c, s0, s1);
+    let mut s0 = a;
+    let mut s1 = b;
+    let mut s = a;
     let mut i = 0u32;
-    while i < 1099 {
-        if is_done(k) {
-            return k.s;
+    while i < 1100 {
+        s = middle_of(s0, s1);
+        if (s == s0) | (s == s1) {
+            return s;
         }
-        k = narrowed(c, k);
+        let gs = curve_at(c, s);
+        if gs > 0.0 {
+            s0 = s;
+        } else if gs < 0.0 {
+            s1 = s;
+        } else {
+            return s;
+        }
         i += 1;
     }
-    k.s
+    s
 }
 
 fn upper_end(g: f64, n0: f64, z1: f64) -> f64
@@ -181,12 +171,13 @@ fn ellipse_foot(c: Point, a: f64, b: f64, p: Point) -> Point
 }
 
 // The nearest point of the ellipse with centre c and semi-axes a and b, and its distance.
-pub fn ellipse_near(c: Point, a: f64, b: f64, p: Point) -> Foot
+pub fn ellipse_near(c: Point, a: f64, b: f64, p: Point) -> Near
     ensures { λ r. ⌜ r ≡ ellipseNear c a b p ⌝ }
 {
     let q = ellipse_foot(c, a, b, p);
-    Foot {
+    Near {
         d: hypot(p.x - q.x, p.y - q.y),
         q,
+        n: Point { x: 1.0, y: 0.0 },
     }
 }

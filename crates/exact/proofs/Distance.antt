@@ -9,7 +9,7 @@ use lib.Dec.{T}
 use lib.IntN.{ℤ, pos, negℤ, _+ℤ_, _-ℤ_, _*ℤ_}
 use lib.Signed.{ltZ}
 use lib.ListN.{length}
-use lib.Ieee.{Float, nan, inf, fin, lt, eq}
+use lib.Ieee.{Float, lt, eq}
 use lib.Ieee.Fits.{and-i}
 use Rattle.algebra.specs.Quote.{quote}
 use Rattle.algebra.specs.Order.{_≦_, _≺_, absℤ, natAbs-neg, nonneg-nat, ≤ℤ-of-eq, ≤ℤ-trans, ≤ℤ-antisym, ≤ℤ-or-<ℤ, <ℤ→≤ℤ, mul-pos}
@@ -17,6 +17,7 @@ use Rattle.algebra.specs.Lin as L
 use Rattle.algebra.specs.Lin.{le-from, lt-from, eq-from, false-from}
 use Rattle.algebra.specs.Mono.{mul-mono, sq-mono}
 use Rattle.number.specs.Exact.{Is, zeroᶠ}
+use Rattle.number.proofs.Values.{below-infinity}
 use Rattle.number.proofs.Operations.{zero-is, neg-is}
 use Rattle.number.proofs.Compare.{lt-is, is-lt, not-lt, →eq}
 use Rattle.boundary.specs.declared.Point.{Point}
@@ -24,7 +25,9 @@ use Rattle.boundary.specs.declared.Edge.{Edge}
 use Rattle.boundary.specs.declared.Near.{Near}
 use Rattle.boundary.specs.declared.Distance.{Distance}
 use Rattle.boundary.specs.Folds.{fold, any}
-use Rattle.boundary.specs.Nearest.{lineNear, nearer, farAway, nearestOf, roundingOf, flipped, signedOf}
+use Rattle.boundary.specs.Line.{lineNear}
+use Rattle.boundary.specs.Piece.{pieceNear}
+use Rattle.boundary.specs.Nearest.{nearer, farAway, nearestOf, roundingOf, flipped, signedOf}
 use Rattle.geometry.specs.Polygon.{containsOf}
 use Rattle.geometry.specs.Refusals.{samePoint}
 use Rattle.exact.specs.Whole.{PointZ, EdgeZ, onEdgeZ, boundaryZ, insideZ, locationZ}
@@ -62,12 +65,6 @@ less-at-least {u} {w} {num} {den} d0 h a = record { holds = λ k. ≤ℤ-trans (
   where
     shrink : (p : ℤ) → p ≦ u → (u -ℤ p) *ℤ (u -ℤ p) *ℤ den ≦ (w -ℤ p) *ℤ (w -ℤ p) *ℤ den
     shrink p k = mul-mono den d0 (sq-mono {x = u -ℤ p} {y = w -ℤ p} (le-from (u ∷ p ∷ []) (L.le k ∷ []) (search quote depth 30) (omega arith)) (le-from (u ∷ w ∷ p ∷ []) (L.le h ∷ []) (search quote depth 30) (omega arith)))
-
-below-infinity : {x : Float} {k : ℕ} {z : ℤ} → Is k x z → lt x (inf false) ≡ true
-unfolding lt
-below-infinity {x = nan} h = absurd (h .has)
-below-infinity {x = inf s} h = absurd (h .has)
-below-infinity {x = fin s m e} h = refl
 
 -- s is 2 ^ -24 of a step: a squared distance above 0 with a denominator of at most 2 ^ 43 is more than that
 too-near : (s num den : ℤ) → pos 0 ≺ s → pos 0 ≺ num → den ≦ pos (2 ^ 43) → num *ℤ ((pos (2 ^ 24) *ℤ s) *ℤ (pos (2 ^ 24) *ℤ s)) ≦ (pos 0 +ℤ s) *ℤ (pos 0 +ℤ s) *ℤ den → ⊥
@@ -124,7 +121,7 @@ module _ {p : Point} {q : PointZ} (P : PointOn p q) where
       }
 
   nearest-near : {es : List Edge} {fs : List EdgeZ} → EdgesOn es fs → Long fs → 0 < length es → Magnitude fs q (nearestOf es p .d)
-  unfolding nearestOf fold
+  unfolding nearestOf pieceNear fold
   nearest-near none empty l = absurd (omega arith)
   nearest-near {es = e ∷ es} {fs = f ∷ fs} (more E r) (also l ls) some =
       let n = edge-near E P l in
@@ -143,13 +140,13 @@ flipped-is false h = h
 
 signed-is : (c : Near) (p : Point) (s : Bool) {u : ℤ} → Is 1074 (c .d) u → pos 0 ≦ u → Is 1074 (signedOf c p s .d) (cond s (negℤ u) u)
 unfolding signedOf
-signed-is c p s {u} i h = go (lt (roundingOf c p) (c .d)) (lt zeroᶠ (c .d)) _ (lt-is (zero-is 1074) i)
+signed-is c p s {u} i h = go (lt (roundingOf (c .q) p) (c .d)) (lt zeroᶠ (c .d)) _ (lt-is (zero-is 1074) i)
   where
     zero-flipped : (s : Bool) → pos 0 ≡ cond s (negℤ (pos 0)) (pos 0)
     zero-flipped true = refl
     zero-flipped false = refl
 
-    go : (a b : Bool) (n : Point) → b ≡ ltZ (pos 0) u → Is 1074 (cond {A = Distance} a (record { d = flipped s (c .d); n = n }) (cond b (record { d = flipped s (c .d); n = c .n }) (record { d = zeroᶠ; n = c .n })) .d) (cond s (negℤ u) u)
+    go : (a b : Bool) (n : Point) → b ≡ ltZ (pos 0) u → Is 1074 (cond {A = Distance} a (record { d = flipped s (c .d); v = n }) (cond b (record { d = flipped s (c .d); v = c .n }) (record { d = zeroᶠ; v = c .n })) .d) (cond s (negℤ u) u)
     go true b n e = flipped-is s i
     go false true n e = flipped-is s i
     go false false n e = subst (λ (u : ℤ). Is 1074 zeroᶠ (cond s (negℤ u) u)) (≤ℤ-antisym h (not-lt (sym e))) (subst (Is 1074 zeroᶠ) (zero-flipped s) (zero-is 1074))

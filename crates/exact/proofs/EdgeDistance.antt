@@ -24,7 +24,7 @@ use Rattle.number.proofs.Compare.{lt-is, lt-true, eq→}
 use Rattle.number.proofs.HypotError.{HypotNear, hypot-relative}
 use Rattle.boundary.specs.declared.Point.{Point}
 use Rattle.boundary.specs.declared.Edge.{Edge}
-use Rattle.boundary.specs.Nearest.{one, wayOf, squaresOf, paramOf, alongOf, footOf, lineNear}
+use Rattle.boundary.specs.Line.{one, wayOf, squaresOf, paramOf, alongOf, footOf, lineNear}
 use Rattle.exact.specs.Whole.{PointZ, EdgeZ}
 use Rattle.exact.specs.Grid.{OnGrid, PointOn, EdgeOn}
 use Rattle.exact.specs.Distance.{Stand, standOf, dotZ, lengthZ, denOf, numZ, denZ, step, part, Near24}

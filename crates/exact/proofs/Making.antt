@@ -38,7 +38,8 @@ use Rattle.exact.proofs.Loop.{length-run, loop, edges-loop}
 use Rattle.exact.proofs.Turned.{loop-turned}
 use Rattle.exact.proofs.Numbers.{length-numbers, vertices-numbers, numbers-vertices, numbers-on}
 use Rattle.exact.proofs.WholeEdges.{loop-on, vertices-on}
-use Rattle.exact.proofs.Tests.{grid-finite, grid-in-field, Shape, shape, tested}
+use Rattle.geometry.proofs.TestLaws.{Shape, shape, tested}
+use Rattle.exact.proofs.Tests.{grid-finite, grid-in-field}
 use Rattle.exact.proofs.Area.{area-exact}
 use Rattle.exact.proofs.OneOutline.{few-edges}
 

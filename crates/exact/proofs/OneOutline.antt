@@ -23,7 +23,8 @@ use Rattle.exact.proofs.Location.{location-exact}
 use Rattle.exact.proofs.Distance.{distance-near}
 use Rattle.exact.proofs.Loop.{length-run}
 use Rattle.exact.proofs.WholeEdges.{edges-on}
-use Rattle.exact.proofs.Tests.{grid-in-field, shape, accepted}
+use Rattle.geometry.proofs.TestLaws.{shape, accepted}
+use Rattle.exact.proofs.Tests.{grid-in-field}
 
 pub few-edges : (v : List Float) → ltb 4096 (count v) ≡ false → length (edges v) ≤ 4096
 unfolding edges

@@ -17,7 +17,7 @@ use Rattle.number.specs.Signs.{clampOf}
 use Rattle.number.proofs.Operations.{equation→is, zero-is}
 use Rattle.number.proofs.RoundingLaws.{rounded-within, rounded-relative, rounded-nonneg, rounded-nonpos}
 use Rattle.number.proofs.Compare.{lt-is, is-lt, not-lt}
-use Rattle.boundary.specs.Nearest.{one}
+use Rattle.boundary.specs.Line.{one}
 use Rattle.exact.specs.Distance.{Stand}
 use Rattle.exact.specs.Distance.Stand.{before, beside, past}
 use Rattle.exact.proofs.Standing.{Stands, reach}

@@ -2,15 +2,11 @@
 use mathlib.Core.Path.{_≡_, refl, ap, _∙_}
 use mathlib.Core.List.{List, [], _∷_, _++_, reverse, reverse-cons}
 use Rattle.boundary.specs.Folds.{fold}
+use Rattle.boundary.proofs.FoldLaws.{fold-last}
 use Rattle.exact.proofs.Loop.{path, loop}
 
 -- `free`: the order of two members does not matter. `turn`: an edge from b to a counts for `h` of what the edge from a to b counts for
 module _ {A B S : Type 0} (join : A → A → B) (f : S → B → S) (h : S → S) (free : (s : S) (x y : B) → f (f s x) y ≡ f (f s y) x) (turn : (s : S) (a b : A) → f (h s) (join b a) ≡ h (f s (join a b))) where
-  fold-last : (s : S) (x : B) (xs : List B) → fold f s (xs ++ (x ∷ [])) ≡ fold f (f s x) xs
-  unfolding fold
-  fold-last s x [] = refl
-  fold-last s x (y ∷ xs) = fold-last (f s y) x xs ∙ ap (λ t. fold f t xs) (free s y x)
-
   path-last : (p z r : A) (ps : List A) → path join p (ps ++ (r ∷ [])) z ≡ path join p ps r ++ (join r z ∷ [])
   unfolding path
   path-last p z r [] = refl
@@ -22,7 +18,7 @@ module _ {A B S : Type 0} (join : A → A → B) (f : S → B → S) (h : S → 
   path-turned s p z (r ∷ ps) =
       ap (λ qs. fold f (h s) (path join z qs p)) (reverse-cons r ps)
       ∙ ap (fold f (h s)) (path-last z p r (reverse ps))
-      ∙ fold-last (h s) (join r p) (path join z (reverse ps) r)
+      ∙ fold-last f free (h s) (join r p) (path join z (reverse ps) r)
       ∙ ap (λ t. fold f t (path join z (reverse ps) r)) (turn s p r)
       ∙ path-turned (f s (join p r)) r z ps
 
@@ -30,7 +26,7 @@ module _ {A B S : Type 0} (join : A → A → B) (f : S → B → S) (h : S → 
   loop-last : (s : S) (p : A) (ps : List A) → fold f s (loop join (ps ++ (p ∷ []))) ≡ fold f s (path join p ps p)
   unfolding fold path loop
   loop-last s p [] = refl
-  loop-last s p (q ∷ ps) = ap (fold f s) (path-last q q p ps) ∙ fold-last s (join p q) (path join q ps p)
+  loop-last s p (q ∷ ps) = ap (fold f s) (path-last q q p ps) ∙ fold-last f free s (join p q) (path join q ps p)
 
   pub loop-turned : (s : S) (ps : List A) → fold f (h s) (loop join (reverse ps)) ≡ h (fold f s (loop join ps))
   unfolding fold loop

@@ -1,29 +1,40 @@
 -- Document 01's starred examples, as one list under one statement: what the definitions give is what the document says. Assumes nothing.
 use mathlib.Core.Path.{_≡_, refl, ap, _∙_}
 use mathlib.Core.Bool.{Bool, true, false}
-use mathlib.Core.List.{List, [], _∷_, map}
+use mathlib.Core.List.{List, [], _∷_, map, flatMap}
 use Prim.Native.Nat.{ℕ}
 use lib.IntN.{pos, negsuc}
-use lib.Ieee.{Float, fin, binary64, ofInt, neg, add, sub, mul, div, lt, le, eq, isNan}
+use lib.Ieee.{Float, fin, binary64, ofInt, neg, add, sub, mul, div, lt, le, eq, ne, isNan}
 use Rattle.number.specs.Root.{sqrtOf}
 use Rattle.number.specs.Hypot.{hypotOf}
 use Rattle.number.specs.Signs.{signBit, withSign, absOf, copysignOf, before, maxOf, clampOf}
 use Rattle.boundary.specs.declared.Point.{Point}
+use Rattle.boundary.specs.declared.Bounds.{Bounds}
 use Rattle.boundary.specs.declared.Near.{Near}
 use Rattle.boundary.specs.declared.Distance.{Distance}
+use Rattle.boundary.specs.Boxes.{scaleOf, widenedOf}
 use Rattle.boundary.specs.Folds.{run, fold, any, oddly, total}
 use Rattle.boundary.specs.Outline.{vertices, edges}
 use Rattle.boundary.specs.Length.{edgeLength, lengthOf}
-use Rattle.boundary.specs.Nearest.{paramOf, alongOf, footOf, normalOf, lineNear, nearestOf, roundingOf, signedOf}
+use Rattle.boundary.specs.Line.{paramOf, alongOf, footOf, normalOf, lineNear}
+use Rattle.boundary.specs.Piece.{pieceNear}
+use Rattle.boundary.specs.Nearest.{nearestOf, roundingOf, signedOf}
 use Rattle.boundary.specs.Ellipse.{quadrantNearest, onAxis, longNearest, ellipseNearest, ellipseFoot, ellipseNear}
 use Rattle.geometry.specs.declared.Answer.{Answer}
-use Rattle.geometry.specs.declared.Answer.the-variants.{Refused, Told, Measure, Away, Place}
+use Rattle.geometry.specs.declared.Answer.the-variants.{Refused, Told, Measure, Away}
 use Rattle.geometry.specs.declared.Refusal.the-variants.{ZeroArea}
 use Rattle.geometry.specs.Answers.{areaAnswer, perimeterAnswer, containsAnswer, locateAnswer, distanceAnswer, answerFor}
 use Rattle.geometry.specs.Polygon.{areaOf, containsOf, crossesOf, locateOf, onEdge}
 use Rattle.geometry.specs.Refusals.{outlineTested, signTested, shapeTested, valuesTested, areaTested, pointTested}
 use Rattle.geometry.specs.Making.{madeList}
 use Rattle.geometry.specs.Ellipse.{offsetFits, ellipseFits, ellipseAnswer}
+use Rattle.clip.specs.Clip.{inside, crosses, partOf, partsOf, parts, lead, lastKept, turned, keptLines, joint, onward, joined, clipOf}
+use Rattle.fill.specs.Fill.{xdyOf, fillOf, longOf}
+use Rattle.fill.specs.Answers.{cellFits, cellTested, roomTested, fillTested, filled, fillAnswer}
+use Rattle.sorts.specs.Sort.{insert, sort}
+use Rattle.index.specs.Entries.{boxAt, wideAt}
+use Rattle.index.specs.Tree.{hull, hullOf, treeOn, indexOf}
+use Rattle.meeting.specs.Meeting.{apart, meetingOf}
 
 -- whole numbers of µm
 abbrev pub um : ℕ → Float
@@ -41,9 +52,9 @@ abbrev pub tenths : ℕ → Float
 unfolding div
 tenths n = div binary64 (um n) (um 10)
 
--- a signed distance and its normal
+-- a distance and its normal, or its nearest point
 abbrev pub away : Float → Float → Float → Distance
-away d x y = record { d = d; n = record { x = x; y = y } }
+away d x y = record { d = d; v = record { x = x; y = y } }
 
 -- the square of the examples
 abbrev pub S : List Float
@@ -57,10 +68,19 @@ S-back = list (0 ∷ 0 ∷ 0 ∷ 4 ∷ 4 ∷ 4 ∷ 4 ∷ 0 ∷ [])
 abbrev pub on-ellipse : Point → Answer
 on-ellipse p = ellipseAnswer (at 0 0) (um 2) (um 1) p
 
--- what a call gives: an answer, or a lent list
+-- the boxes of the examples
+abbrev pub boxes : List Float
+boxes = list (0 ∷ 0 ∷ 1 ∷ 1 ∷ 10 ∷ 10 ∷ 11 ∷ 11 ∷ [])
+
+-- min x, min y, max x, max y
+abbrev pub cell : ℕ → ℕ → ℕ → ℕ → Bounds
+cell x y z t = record { min = at x y; max = at z t }
+
+-- what a call gives: an answer, a lent list of numbers, or a list of items
 pub data Given : Type 0 where
   answers : Answer → Given
   leaves : List Float → Given
+  lists : List ℕ → Given
 
 -- what a call gives, and what the document says that it gives
 pub record Example : Type 0 where
@@ -86,23 +106,27 @@ starred =
     ∷ (answers (containsAnswer S (at 0 2)) ⊢ answers (Told 1))
     ∷ (answers (containsAnswer S (at 2 0)) ⊢ answers (Told 1))
     ∷ (answers (containsAnswer S (at 2 4)) ⊢ answers (Told 0))
+    ∷ (answers (fillAnswer S (cell 1 1 3 6) 64) ⊢ answers (Measure (um 6)))
+    ∷ (answers (fillAnswer S (cell 5 5 6 6) 64) ⊢ answers (Measure (um 0)))
     ∷ (answers (areaAnswer (list (0 ∷ 0 ∷ 1 ∷ 0 ∷ 2 ∷ 0 ∷ []))) ⊢ answers (Refused ZeroArea))
     ∷ (answers (areaAnswer (list (0 ∷ 0 ∷ 2 ∷ 2 ∷ 2 ∷ 0 ∷ 0 ∷ 2 ∷ []))) ⊢ answers (Refused ZeroArea))
-    ∷ (answers (on-ellipse (record { x = um 0; y = neg (um 0) })) ⊢ answers (Place (record { d = um 1; q = record { x = um 0; y = neg (um 1) } })))
-    ∷ (answers (on-ellipse (at 3 0)) ⊢ answers (Place (record { d = um 1; q = at 2 0 })))
+    ∷ (answers (on-ellipse (record { x = um 0; y = neg (um 0) })) ⊢ answers (Away (away (um 1) (um 0) (neg (um 1)))))
+    ∷ (answers (on-ellipse (at 3 0)) ⊢ answers (Away (away (um 1) (um 2) (um 0))))
+    ∷ (lists (meetingOf (cell 5 5 6 6) (indexOf boxes)) ⊢ lists (0 ∷ 1 ∷ []))
+    ∷ (lists (meetingOf (cell 20 20 21 21) (indexOf boxes)) ⊢ lists [])
     ∷ []
 
 -- ---- the distances by steps, since a magnitude that is not yet worked out is worked out at every use: the nearest point first
 nearest-6 : nearestOf (edges S) (at 6 2) ≡ record { d = um 2; q = at 4 2; n = record { x = um 1; y = neg (um 0) } }
-unfolding nearestOf lineNear footOf paramOf alongOf normalOf hypotOf sqrtOf clampOf edges run fold add sub mul div neg lt eq ofInt
+unfolding nearestOf pieceNear lineNear footOf paramOf alongOf normalOf hypotOf sqrtOf clampOf edges run fold add sub mul div neg lt eq ofInt
 nearest-6 = refl
 
 nearest-1 : nearestOf (edges S) (at 1 2) ≡ record { d = um 1; q = at 0 2; n = record { x = neg (um 1); y = neg (um 0) } }
-unfolding nearestOf lineNear footOf paramOf alongOf normalOf hypotOf sqrtOf clampOf edges run fold add sub mul div neg lt eq ofInt
+unfolding nearestOf pieceNear lineNear footOf paramOf alongOf normalOf hypotOf sqrtOf clampOf edges run fold add sub mul div neg lt eq ofInt
 nearest-1 = refl
 
 nearest-7 : nearestOf (edges S) (at 7 8) ≡ record { d = um 5; q = at 4 4; n = record { x = um 1; y = neg (um 0) } }
-unfolding nearestOf lineNear footOf paramOf alongOf normalOf hypotOf sqrtOf clampOf edges run fold add sub mul div neg lt eq ofInt
+unfolding nearestOf pieceNear lineNear footOf paramOf alongOf normalOf hypotOf sqrtOf clampOf edges run fold add sub mul div neg lt eq ofInt
 nearest-7 = refl
 
 -- and then its sign
@@ -149,5 +173,5 @@ also e es = rw (e, es)
 
 -- every example holds
 pub starred-hold : map (λ (e : Example). e .gives) starred ≡ map (λ (e : Example). e .said) starred
-unfolding starred areaAnswer perimeterAnswer containsAnswer locateAnswer madeList answerFor outlineTested signTested shapeTested valuesTested areaTested pointTested areaOf containsOf crossesOf locateOf onEdge lengthOf edgeLength ellipseAnswer ellipseFits offsetFits ellipseNear ellipseFoot ellipseNearest longNearest quadrantNearest onAxis copysignOf absOf withSign signBit maxOf before hypotOf sqrtOf total any oddly fold run edges vertices add sub mul div neg lt le eq ofInt
+unfolding starred areaAnswer perimeterAnswer containsAnswer locateAnswer madeList answerFor outlineTested signTested shapeTested valuesTested areaTested pointTested areaOf containsOf crossesOf locateOf onEdge lengthOf edgeLength ellipseAnswer ellipseFits offsetFits pieceNear ellipseNear ellipseFoot ellipseNearest longNearest quadrantNearest onAxis copysignOf absOf withSign signBit maxOf before hypotOf sqrtOf total any oddly fold run edges vertices add sub mul div neg lt le eq ofInt fillAnswer fillTested roomTested cellTested cellFits filled longOf fillOf xdyOf clipOf joined onward joint keptLines turned lastKept lead parts partsOf partOf crosses inside Rattle.clip.specs.Clip.at alongOf flatMap ne meetingOf apart indexOf treeOn hullOf hull wideAt boxAt widenedOf scaleOf sort insert isNan
 starred-hold = also (ap answers distance-6) (also (ap answers distance-1) (also (ap answers distance-7) refl))

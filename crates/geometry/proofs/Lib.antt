@@ -4,3 +4,5 @@
 pub mod TestLaws
 -- What a loop that writes points cites.
 pub mod WriteLaws
+-- Containment in the Rust's order of edges.
+pub mod ContainsLaws

@@ -5,14 +5,13 @@ use Prim.Native.Nat.{ℕ}
 use lib.Ieee.{Float}
 use Rattle.number.specs.Exact.{zeroᶠ}
 use Rattle.boundary.specs.declared.Point.{Point}
+use Rattle.boundary.specs.declared.Bounds.{Bounds}
 use Rattle.boundary.specs.declared.Distance.{Distance}
-use Rattle.boundary.specs.declared.Foot.{Foot}
 use Rattle.boundary.specs.Outline.{vertices, edges}
 use Rattle.boundary.specs.Length.{lengthOf}
 use Rattle.boundary.specs.Nearest.{nearestOf, signedOf}
-use Rattle.geometry.specs.declared.Bounds.{Bounds}
 use Rattle.geometry.specs.declared.Answer.{Answer}
-use Rattle.geometry.specs.declared.Answer.the-variants.{Refused, Told, Measure, Box, Away, Place}
+use Rattle.geometry.specs.declared.Answer.the-variants.{Refused, Told, Measure, Box, Away}
 use Rattle.geometry.specs.declared.Verdict.{Verdict}
 use Rattle.geometry.specs.declared.Verdict.the-variants.{Passed, Failed}
 use Rattle.geometry.specs.Refusals.{number, outlineTested, pointTested}
@@ -25,7 +24,6 @@ numberOf (Told n) = 0
 numberOf (Measure x) = 0
 numberOf (Box b) = 0
 numberOf (Away d) = 0
-numberOf (Place f) = 0
 
 abbrev pub toldOf : Answer → ℕ
 toldOf (Refused r) = 0
@@ -33,7 +31,6 @@ toldOf (Told n) = n
 toldOf (Measure x) = 0
 toldOf (Box b) = 0
 toldOf (Away d) = 0
-toldOf (Place f) = 0
 
 abbrev pub measureOf : Answer → Float
 measureOf (Refused r) = zeroᶠ
@@ -41,7 +38,6 @@ measureOf (Told n) = zeroᶠ
 measureOf (Measure x) = x
 measureOf (Box b) = zeroᶠ
 measureOf (Away d) = zeroᶠ
-measureOf (Place f) = zeroᶠ
 
 abbrev pub zeroBox : Bounds
 zeroBox = record { min = record { x = zeroᶠ; y = zeroᶠ }; max = record { x = zeroᶠ; y = zeroᶠ } }
@@ -52,10 +48,9 @@ boxOf (Told n) = zeroBox
 boxOf (Measure x) = zeroBox
 boxOf (Box b) = b
 boxOf (Away d) = zeroBox
-boxOf (Place f) = zeroBox
 
 abbrev pub zeroDistance : Distance
-zeroDistance = record { d = zeroᶠ; n = record { x = zeroᶠ; y = zeroᶠ } }
+zeroDistance = record { d = zeroᶠ; v = record { x = zeroᶠ; y = zeroᶠ } }
 
 abbrev pub awayOf : Answer → Distance
 awayOf (Refused r) = zeroDistance
@@ -63,18 +58,6 @@ awayOf (Told n) = zeroDistance
 awayOf (Measure x) = zeroDistance
 awayOf (Box b) = zeroDistance
 awayOf (Away d) = d
-awayOf (Place f) = zeroDistance
-
-abbrev pub zeroFoot : Foot
-zeroFoot = record { d = zeroᶠ; q = record { x = zeroᶠ; y = zeroᶠ } }
-
-abbrev pub placeOf : Answer → Foot
-placeOf (Refused r) = zeroFoot
-placeOf (Told n) = zeroFoot
-placeOf (Measure x) = zeroFoot
-placeOf (Box b) = zeroFoot
-placeOf (Away d) = zeroFoot
-placeOf (Place f) = f
 
 -- ---- the operations
 -- the answer where the outline is accepted, from its area; otherwise the refusal

@@ -5,15 +5,12 @@ use lib.Ieee.{Float, fin, binary64, sub, neg, le, eq}
 use Rattle.number.specs.Exact.{zeroᶠ}
 use Rattle.number.specs.Signs.{absOf}
 use Rattle.boundary.specs.declared.Point.{Point}
-use Rattle.boundary.specs.Ellipse.{ellipseNear}
+use Rattle.boundary.specs.declared.Piece.the-variants.{Ellipse}
+use Rattle.boundary.specs.Piece.{pieceNear}
+use Rattle.boundary.specs.Boxes.{pointInField}
 use Rattle.geometry.specs.declared.Answer.{Answer}
-use Rattle.geometry.specs.declared.Answer.the-variants.{Refused, Place}
+use Rattle.geometry.specs.declared.Answer.the-variants.{Refused, Away}
 use Rattle.geometry.specs.declared.Refusal.the-variants.{BadPoint, BadEllipse}
-use Rattle.geometry.specs.Refusals.{inField}
-
--- test 10, of the point and of the centre
-abbrev pub pointInField : Point → Bool
-pointInField p = inField (p .x) && inField (p .y)
 
 -- ---- test 12
 -- a semi-axis is 2 ^ -10 to 1,024
@@ -38,10 +35,11 @@ unfoldable pub ellipseFits : Point → Float → Float → Point → Bool
 unfolding le offsetFits
 ellipseFits c a b p = (axisFits a && axisFits b) && (offsetFits (c .x) (p .x) && offsetFits (c .y) (p .y))
 
--- ---- the ellipse with centre c and semi-axes a along x and b along y, and the point p
+-- ---- the ellipse with centre c and semi-axes a along x and b along y, and the point p: test 10 of the point and of the centre, then test 12
+-- its distance, and its nearest point
 unfoldable pub ellipseAnswer : Point → Float → Float → Point → Answer
-unfolding neg le ellipseFits ellipseNear
+unfolding neg le ellipseFits
 ellipseAnswer c a b p =
     cond (pointInField p && pointInField c)
-    (cond (ellipseFits c a b p) (Place (ellipseNear c a b p)) (Refused BadEllipse))
+    (cond (ellipseFits c a b p) (let k = pieceNear (Ellipse c a b) p in Away (record { d = k .d; v = k .q })) (Refused BadEllipse))
     (Refused BadPoint)

@@ -48,7 +48,7 @@ numbers [] = []
 numbers (p ∷ ps) = p .x ∷ p .y ∷ numbers ps
 
 -- xs from the front of the lent list on, and the places past the end unchanged
-unfoldable pub atFront : List Float → List Float → List Float
+unfoldable pub atFront : {A : Type 0} → List A → List A → List A
 atFront xs out = xs ++ drop (length xs) out
 
 -- the lent list then, from what the tests say: the made outline, or nothing written

@@ -1,14 +1,17 @@
 -- An outline's area, containment, location and bounds, over its edges or vertices (document 01, geometry.rs). Definitions only.
 use mathlib.Core.Bool.{Bool, true, false, _&&_, cond}
 use mathlib.Core.List.{List}
-use Prim.Native.Nat.{ℕ}
+use Prim.Native.Nat.{ℕ, _-_}
+use lib.Dec.{eqb}
 use lib.IntN.{pos}
 use lib.Ieee.{Float, inf, fin, binary64, unlike, add, sub, mul, div, lt, le, eq}
 use Rattle.number.specs.Exact.{zeroᶠ}
 use Rattle.boundary.specs.declared.Point.{Point}
 use Rattle.boundary.specs.declared.Edge.{Edge}
-use Rattle.boundary.specs.Folds.{fold, any, oddly, total}
-use Rattle.geometry.specs.declared.Bounds.{Bounds}
+use Rattle.boundary.specs.declared.Bounds.{Bounds}
+use Rattle.boundary.specs.Boxes.{lesser, greater}
+use Rattle.boundary.specs.Folds.{run, fold, any, oddly, total}
+use Rattle.boundary.specs.Outline.{count, vertexAt}
 
 -- ---- area: half the shoelace sum
 abbrev pub crossOf : Edge → Float
@@ -32,14 +35,18 @@ unfoldable pub containsOf : List Edge → Point → Bool
 unfolding oddly crossesOf
 containsOf es p = oddly (crossesOf p) es
 
+-- the same in the Rust's order: each vertex with the one before it, the first with the last
+abbrev pub before : ℕ → ℕ → ℕ
+before n i = cond (eqb i 0) (n - 1) (i - 1)
+
+abbrev pub edgeInto : List Float → ℕ → Edge
+edgeInto v i = record { a = vertexAt v (before (count v) i); b = vertexAt v i }
+
+unfoldable pub containsRust : List Float → Point → Bool
+unfolding oddly crossesOf run
+containsRust v p = oddly (crossesOf p) (run (edgeInto v) 0 (count v))
+
 -- ---- location: 0 outside, 1 boundary, 2 inside, the boundary tested first
--- of two numbers the lesser and the greater, the first where they are equal
-abbrev pub lesser : Float → Float → Float
-lesser a b = cond (lt b a) b a
-
-abbrev pub greater : Float → Float → Float
-greater a b = cond (lt a b) b a
-
 -- q lies between a and b, ends included
 abbrev pub between : Float → Float → Float → Bool
 between a b q = le (lesser a b) q && le q (greater a b)

@@ -1,19 +1,19 @@
 -- The tests that an outline and a point go through, in document 01's order, each over the whole outline before the next. Definitions only.
-use mathlib.Core.Bool.{Bool, false, not, _&&_, cond}
+use mathlib.Core.Bool.{Bool, not, _&&_, cond}
 use mathlib.Core.List.{List}
 use Prim.Native.Nat.{ℕ, _%_}
 use lib.Dec.{eqb, ltb}
-use lib.IntN.{pos}
 use lib.ListN.{length}
-use lib.Ieee.{Float, fin, neg, lt, le, eq}
+use lib.Ieee.{Float, neg, lt, le, eq}
 use lib.Ieee.Scale.{finite}
 use Rattle.number.specs.Exact.{zeroᶠ}
 use Rattle.boundary.specs.declared.Point.{Point}
 use Rattle.boundary.specs.declared.Edge.{Edge}
+use Rattle.boundary.specs.Boxes.{inField, pointInField}
 use Rattle.boundary.specs.Folds.{any}
 use Rattle.boundary.specs.Outline.{count, edges}
 use Rattle.geometry.specs.declared.Refusal.{Refusal}
-use Rattle.geometry.specs.declared.Refusal.the-variants.{OddCount, TooFew, TooMany, NotFinite, OutsideField, EqualNeighbours, ZeroArea, NegativeArea, BadPoint, BadEllipse, ShortBuffer}
+use Rattle.geometry.specs.declared.Refusal.the-variants.{OddCount, TooFew, TooMany, NotFinite, OutsideField, EqualNeighbours, ZeroArea, NegativeArea, BadPoint, BadBox, BadEllipse, ShortBuffer, LongList}
 use Rattle.geometry.specs.declared.Verdict.{Verdict}
 use Rattle.geometry.specs.declared.Verdict.the-variants.{Passed, Failed}
 use Rattle.geometry.specs.Polygon.{areaOf}
@@ -29,15 +29,10 @@ number EqualNeighbours = 7
 number ZeroArea = 8
 number NegativeArea = 9
 number BadPoint = 10
+number BadBox = 11
 number BadEllipse = 12
 number ShortBuffer = 13
-
--- the *field* (document 01): every finite number of magnitude at most 1,048,576
-abbrev pub limit : Float
-limit = fin false 1 (pos 20)
-
-abbrev pub inField : Float → Bool
-inField x = le (neg limit) x && le x limit
+number LongList = 14
 
 -- two points are equal; zeros of either sign are
 abbrev pub samePoint : Point → Point → Bool
@@ -86,5 +81,5 @@ outlineTested v = signTested (shapeTested v)
 -- ---- test 10
 unfoldable pub pointTested : Point → Verdict → Verdict
 unfolding neg le
-pointTested p (Passed a) = cond (inField (p .x) && inField (p .y)) (Passed a) (Failed BadPoint)
+pointTested p (Passed a) = cond (pointInField p) (Passed a) (Failed BadPoint)
 pointTested p (Failed r) = Failed r

@@ -1,9 +1,12 @@
 // The nearest point of an ellipse, with its tests.
 ghost use mathlib.Core.Path.{_≡_};
-ghost use Rattle.geometry.specs.Ellipse.{pointInField, axisFits, offsetFits, ellipseFits, ellipseAnswer};
+ghost use Rattle.boundary.specs.Boxes.{pointInField};
+ghost use Rattle.geometry.specs.Ellipse.{axisFits, offsetFits, ellipseFits, ellipseAnswer};
 use crate::Answer;
 use crate::Refusal;
 use crate::refusals::in_field;
+use boundary::Distance;
+use boundary::Piece;
 use boundary::Point;
 
 // 2^-10 and 2^-20.
@@ -44,7 +47,9 @@ pub fn ellipse_nearest(c: Point, a: f64, b: f64, p: Point) -> Answer
 {
     if point_in_field(p) & point_in_field(c) {
         if ellipse_fits(c, a, b, p) {
-            return Answer::Place(boundary::ellipse::ellipse_near(c, a, b, p));
+            let k = Piece::Ellipse { c, a, b }.nearest(p);
+            let v = k.q;
+            return Answer::Away(Distance { d: k.d, v });
         }
         return Answer::Refused(Refusal::BadEllipse);
     }

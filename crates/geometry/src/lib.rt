@@ -4,15 +4,8 @@ pub mod ellipse;
 pub mod polygon;
 pub mod refusals;
 
+use boundary::Bounds;
 use boundary::Distance;
-use boundary::Foot;
-use boundary::Point;
-
-// An axis-parallel box.
-pub struct Bounds {
-    pub min: Point,
-    pub max: Point,
-}
 
 // Why a call is turned away. specs/Refusals.antt has the numbers.
 pub enum Refusal {
@@ -25,8 +18,10 @@ pub enum Refusal {
     ZeroArea,
     NegativeArea,
     BadPoint,
+    BadBox,
     BadEllipse,
     ShortBuffer,
+    LongList,
 }
 
 // What the tests say of an outline: its area, or why it is turned away.
@@ -35,13 +30,12 @@ pub enum Verdict {
     Failed(Refusal),
 }
 
-// What an operation answers: a count, flag or location, a measure, a box, a signed distance with
-// its normal, or a place and its distance.
+// What an operation answers: a count, flag or location, a measure, a box, or a distance with its normal
+// or its nearest point.
 pub enum Answer {
     Refused(Refusal),
     Told(u32),
     Measure(f64),
     Box(Bounds),
     Away(Distance),
-    Place(Foot),
 }

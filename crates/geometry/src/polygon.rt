@@ -5,16 +5,18 @@ ghost use Prim.Native.Nat.{_-_, _<_, _≤_};
 ghost use lib.ListN.{length};
 ghost use Rattle.boundary.specs.Folds.{any};
 ghost use Rattle.boundary.specs.Outline.{vertices, edges};
-ghost use Rattle.geometry.specs.Polygon.{crossesOf, containsOf, lesser, greater, between, turnOf, onEdge, locateOf, nowhere, stretched, boundsOf};
+ghost use Rattle.geometry.specs.Polygon.{crossesOf, containsOf, between, turnOf, onEdge, locateOf, nowhere, stretched, boundsOf};
 ghost use Rattle.geometry.specs.Answers.{areaAnswer, perimeterAnswer, boundsAnswer, containsAnswer, locateAnswer, distanceAnswer};
 ghost use Rattle.geometry.specs.Making.{keptCount, turned, numbers, atFront, makeAnswer, madeList};
 use crate::Answer;
-use crate::Bounds;
 use crate::Refusal;
 use crate::Verdict;
 use crate::refusals;
+use boundary::Bounds;
 use boundary::Edge;
 use boundary::Point;
+use boundary::greater_of;
+use boundary::lesser_of;
 
 // Whether the edge counts for p.
 fn crosses(p: Point, e: Edge) -> bool
@@ -39,18 +41,6 @@ pub fn holds(v: &[f64], p: Point) -> bool
         i += 1;
     }
     inside
-}
-
-fn lesser_of(a: f64, b: f64) -> f64
-    ensures { λ r. ⌜ r ≡ lesser a b ⌝ }
-{
-    number::signs::pick(b < a, b, a)
-}
-
-fn greater_of(a: f64, b: f64) -> f64
-    ensures { λ r. ⌜ r ≡ greater a b ⌝ }
-{
-    number::signs::pick(a < b, b, a)
 }
 
 fn is_between(a: f64, b: f64, q: f64) -> bool
@@ -96,7 +86,8 @@ fn location(v: &[f64], p: Point) -> u32
     if holds(v, p) { 2 } else { 0 }
 }
 
-fn stretch(b: Bounds, p: Point) -> Bounds
+// The box stretched to p.
+pub fn stretch(b: Bounds, p: Point) -> Bounds
     ensures { λ r. ⌜ r ≡ stretched b p ⌝ }
 {
     Bounds {
@@ -111,7 +102,8 @@ fn stretch(b: Bounds, p: Point) -> Bounds
     }
 }
 
-fn empty_box() -> Bounds
+// The box with nothing in it.
+pub fn empty_box() -> Bounds
     ensures { λ r. ⌜ r ≡ nowhere ⌝ }
 {
     let top = 1.0 / 0.0;

@@ -1,11 +1,12 @@
 // The tests of an outline and of a point, in document 01's order.
 ghost use mathlib.Core.Path.{_≡_};
-ghost use mathlib.Core.Bool.{not};
+ghost use mathlib.Core.Bool.{not, cond};
 ghost use lib.Ieee.Scale.{finite};
+ghost use Rattle.boundary.specs.Boxes.{inField};
 ghost use Rattle.boundary.specs.Folds.{any};
 ghost use Rattle.boundary.specs.Outline.{edges};
 ghost use Rattle.geometry.specs.Polygon.{crossOf};
-ghost use Rattle.geometry.specs.Refusals.{number, inField, samePoint, areaTested, edgesTested, valuesTested, shapeTested, outlineTested, signTested, pointTested};
+ghost use Rattle.geometry.specs.Refusals.{number, samePoint, areaTested, edgesTested, valuesTested, shapeTested, outlineTested, signTested, pointTested};
 use crate::Refusal;
 use crate::Verdict;
 use boundary::Edge;
@@ -27,8 +28,10 @@ pub fn number_of(r: Refusal) -> u32
         Refusal::ZeroArea => 8,
         Refusal::NegativeArea => 9,
         Refusal::BadPoint => 10,
+        Refusal::BadBox => 11,
         Refusal::BadEllipse => 12,
         Refusal::ShortBuffer => 13,
+        Refusal::LongList => 14,
     }
 }
 
@@ -52,27 +55,21 @@ pub fn same_point(a: Point, b: Point) -> bool
     (a.x == b.x) & (a.y == b.y)
 }
 
-// Whether a number is not finite.
-fn any_not_finite(v: &[f64]) -> bool
-    ensures { λ r. ⌜ r ≡ any (λ x. not (finite x)) (now (v .entry)) ⌝ }
+// Whether x passes test 5, where that is all that is asked; else test 6.
+fn number_fits(only: bool, x: f64) -> bool
+    ensures { λ r. ⌜ r ≡ cond only (finite x) (inField x) ⌝ }
 {
-    let mut found = false;
-    let mut i = 0;
-    while i < v.len() {
-        found = found | !is_finite(v[i]);
-        i += 1;
-    }
-    found
+    if only { is_finite(x) } else { in_field(x) }
 }
 
-// Whether a number is outside the field.
-fn any_outside(v: &[f64]) -> bool
-    ensures { λ r. ⌜ r ≡ any (λ x. not (inField x)) (now (v .entry)) ⌝ }
+// Whether a number does not pass it.
+fn any_unfit(v: &[f64], only: bool) -> bool
+    ensures { λ r. ⌜ r ≡ any (λ x. not (cond only (finite x) (inField x))) (now (v .entry)) ⌝ }
 {
     let mut found = false;
     let mut i = 0;
     while i < v.len() {
-        found = found | !in_field(v[i]);
+        found = found | !number_fits(only, v[i]);
         i += 1;
     }
     found
@@ -119,8 +116,8 @@ fn edges_tested(v: &[f64]) -> Verdict
 fn values_tested(v: &[f64]) -> Verdict
     ensures { λ r. ⌜ r ≡ valuesTested (now (v .entry)) ⌝ }
 {
-    if any_outside(v) {
-        if any_not_finite(v) {
+    if any_unfit(v, false) {
+        if any_unfit(v, true) {
             return Verdict::Failed(Refusal::NotFinite);
         }
         return Verdict::Failed(Refusal::OutsideField);

@@ -1,7 +1,7 @@
 -- The errors of the root and of `hypot`: within 2 ^ -52 and 2 ^ -50 of the exact one, said of the squares, all in units of 2 ^ -1074. Assumes nothing.
 use mathlib.Core.Path.{_≡_, refl, sym, _∙_, subst}
 use mathlib.Core.Logic.{⊎-elim}
-use mathlib.Core.List.{List, [], _∷_}
+use mathlib.Core.List.{[], _∷_}
 use mathlib.Core.Bool.{Bool, true, false}
 use Prim.Native.Nat.{ℕ, _+_, _-_, _*_, _^_, _≤_, _<_}
 use native.Mathlib.Nat.{le-trans, le-of-lt, lt-irrefl, zero-mul, mul-pos, mul-le-mul, add-le-add, eq-zero-or-pos}
@@ -10,13 +10,13 @@ use borrow.Author.Tests.{eq-eqb}
 use lib.Dec.{T, lit≤}
 use lib.IntN.{ℤ, pos, negℤ, natAbs, _+ℤ_, _-ℤ_, _*ℤ_}
 use lib.Pow.{pow-pos}
-use lib.Ieee.{Float, fin, binary64, up, down, mul, fits}
+use lib.Ieee.{Float, fin, binary64, up, down, add, mul, fits}
 use lib.Ieee.Fits.{up-pos, down-pos, add-fits}
 use lib.Ieee.Exact.{HasValue}
 use lib.Ieee.Positive.{positive, positive-of-value}
 use Rattle.algebra.specs.Quote.{quote}
 use Rattle.algebra.specs.Int.{posPart-neg, negPart-neg}
-use Rattle.algebra.specs.Order.{_≦_, _≺_, ord, Within, absℤ, natAbs-mul, pos-le, pos-lt, pos-nonneg, ≤ℤ-of-eq, ≤ℤ-or-<ℤ, ≤ℤ-antisym, <ℤ→≤ℤ, nonneg-nat, sq-nonneg, within-natAbs, +ℤ-mono, le-of-within}
+use Rattle.algebra.specs.Order.{_≦_, _≺_, ord, Within, natAbs-add, natAbs-mul, pos-le, pos-lt, pos-nonneg, ≤ℤ-or-<ℤ, ≤ℤ-antisym, <ℤ→≤ℤ, sq-nonneg, +ℤ-mono}
 use Rattle.algebra.specs.Lin.{le, lt, le-from}
 use Rattle.algebra.specs.Comb.{le-comb}
 use Rattle.algebra.specs.Mono.{mul-mono, mul-cancel, within-cancel}
@@ -26,7 +26,8 @@ use Rattle.number.specs.Root.{sqrtOf}
 use Rattle.number.specs.Hypot.{hypotOf}
 use Rattle.number.specs.Rounding.{Rounded}
 use Rattle.number.proofs.Operations.{Equation, is→equation, is-unique}
-use Rattle.number.proofs.RoundingLaws.{rounded-relative, rounded-nonneg, rounded-size}
+use Rattle.number.proofs.RoundingLaws.{rounded-relative-plus, rounded-nonneg}
+use Rattle.number.proofs.Values.{rounded-natAbs}
 use Rattle.number.proofs.ExactLaws.{add-result, mul-result}
 use Rattle.number.proofs.CloseRoot.{Close, sqrt-close}
 
@@ -97,59 +98,66 @@ pub record HypotNear (x : Float) (u w : ℤ) : Type 0 where
   pub plus : pos 0 ≦ d
   pub near : Within (pos (2 ^ 50) *ℤ (d *ℤ d -ℤ (u *ℤ u +ℤ w *ℤ w))) (u *ℤ u +ℤ w *ℤ w +ℤ pos (2 ^ 53) *ℤ pos (2 ^ 1074))
 
--- A unit is U squares of the unit. The squares of u and w, rounded, are X1 and X2 units, their sum, rounded, is Y units, and D is the root's square
-module _ (U u w X1 X2 Y D : ℤ) (U0 : pos 0 ≦ U)
-    (h1 : Within (pos (2 ^ 53) *ℤ (X1 *ℤ U -ℤ u *ℤ u)) (u *ℤ u +ℤ pos (2 ^ 52) *ℤ U))
-    (h2 : Within (pos (2 ^ 53) *ℤ (X2 *ℤ U -ℤ w *ℤ w)) (w *ℤ w +ℤ pos (2 ^ 52) *ℤ U))
-    (h3 : Within (pos (2 ^ 53) *ℤ (Y *ℤ pos 1 -ℤ (X1 +ℤ X2))) (X1 +ℤ X2 +ℤ pos (2 ^ 52) *ℤ pos 1))
-    (h4 : Within (pos (2 ^ 52) *ℤ (D -ℤ Y *ℤ U)) D) where
-  abbrev ρ : List ℤ
-  ρ = U ∷ u ∷ w ∷ X1 ∷ X2 ∷ Y ∷ D ∷ []
+-- x is S units, which are S * 2 ^ 1074 squares of the unit, and off u * u + w * w by at most 2 ^ -51 of that and 2 units
+pub record SquaresNear (x : Float) (u w : ℤ) : Type 0 where
+  pub S : ℤ
+  pub is : Is 1074 x S
+  pub plus : pos 0 ≦ S
+  pub size : natAbs S ≤ 2 ^ 2093
+  pub near : Within (pos (2 ^ 51) *ℤ (S *ℤ pos (2 ^ 1074) -ℤ (u *ℤ u +ℤ w *ℤ w))) (u *ℤ u +ℤ w *ℤ w +ℤ pos (2 ^ 52) *ℤ pos (2 ^ 1074))
 
-  sum-near : Within (pos (2 ^ 51) *ℤ (Y *ℤ U -ℤ (u *ℤ u +ℤ w *ℤ w))) (u *ℤ u +ℤ w *ℤ w +ℤ pos (2 ^ 52) *ℤ U)
-  sum-near = within-cancel (pos (2 ^ 55)) (record { lt = tt }) (record {
-    low = le-comb ρ (le (mul-mono U U0 (h3 .low)) ∷ le (h1 .low) ∷ le (h2 .low) ∷ le (sq-nonneg u) ∷ le (sq-nonneg w) ∷ le U0 ∷ [])
-        ((2 ^ 53) ∷ (2 ^ 53 - 1) ∷ (2 ^ 53 - 1) ∷ (2 ^ 54 + 1) ∷ (2 ^ 54 + 1) ∷ (2 ^ 105 + 2 ^ 53) ∷ []) 0 (search quote depth 30) tt;
-    high = le-comb ρ (le (mul-mono U U0 (h3 .high)) ∷ le (h1 .high) ∷ le (h2 .high) ∷ le (sq-nonneg u) ∷ le (sq-nonneg w) ∷ le U0 ∷ [])
-        ((2 ^ 53) ∷ (2 ^ 53 + 1) ∷ (2 ^ 53 + 1) ∷ (2 ^ 54 - 1) ∷ (2 ^ 54 - 1) ∷ (2 ^ 105 - 2 ^ 53) ∷ []) 0 (search quote depth 30) tt;
-  })
-
-  length-near : Within (pos (2 ^ 50) *ℤ (D -ℤ (u *ℤ u +ℤ w *ℤ w))) (u *ℤ u +ℤ w *ℤ w +ℤ pos (2 ^ 53) *ℤ U)
-  length-near = record {
-    low = mul-cancel (pos (2 ^ 53 + 2)) (negℤ (u *ℤ u +ℤ w *ℤ w +ℤ pos (2 ^ 53) *ℤ U)) (pos (2 ^ 50) *ℤ (D -ℤ (u *ℤ u +ℤ w *ℤ w))) (record { lt = tt })
-        (le-comb ρ (le (h4 .low) ∷ le (sum-near .low) ∷ le (sq-nonneg u) ∷ le (sq-nonneg w) ∷ le U0 ∷ [])
-        ((2 ^ 51) ∷ (2 ^ 52) ∷ (2 ^ 51 + 2) ∷ (2 ^ 51 + 2) ∷ (2 ^ 106 + 2 ^ 54 - 2 ^ 104) ∷ []) 0 (search quote depth 30) tt);
-    high = mul-cancel (pos (2 ^ 53 - 2)) (pos (2 ^ 50) *ℤ (D -ℤ (u *ℤ u +ℤ w *ℤ w))) (u *ℤ u +ℤ w *ℤ w +ℤ pos (2 ^ 53) *ℤ U) (record { lt = tt })
-        (le-comb ρ (le (h4 .high) ∷ le (sum-near .high) ∷ le (sq-nonneg u) ∷ le (sq-nonneg w) ∷ le U0 ∷ [])
-        ((2 ^ 51) ∷ (2 ^ 52) ∷ (2 ^ 51 - 2) ∷ (2 ^ 51 - 2) ∷ (2 ^ 106 - 2 ^ 54 - 2 ^ 104) ∷ []) 0 (search quote depth 30) tt);
-  }
-
-self-bound : {x : ℤ} → pos 0 ≦ x → absℤ x ≦ x
-self-bound h = ≤ℤ-of-eq (nonneg-nat h)
+-- A unit is U squares of the unit. The squares of u and w, rounded, are X1 and X2 units, and their sum, rounded, is S units
+sum-near : (U u w X1 X2 S : ℤ) → pos 0 ≦ U
+    → Within (pos (2 ^ 53) *ℤ (X1 *ℤ U -ℤ u *ℤ u)) (u *ℤ u +ℤ pos (2 ^ 52) *ℤ U)
+    → Within (pos (2 ^ 53) *ℤ (X2 *ℤ U -ℤ w *ℤ w)) (w *ℤ w +ℤ pos (2 ^ 52) *ℤ U)
+    → Within (pos (2 ^ 53) *ℤ (S *ℤ pos 1 -ℤ (X1 +ℤ X2))) (X1 +ℤ X2 +ℤ pos (2 ^ 52) *ℤ pos 1)
+    → Within (pos (2 ^ 51) *ℤ (S *ℤ U -ℤ (u *ℤ u +ℤ w *ℤ w))) (u *ℤ u +ℤ w *ℤ w +ℤ pos (2 ^ 52) *ℤ U)
+sum-near U u w X1 X2 S U0 h1 h2 h3 =
+    let ρ = U ∷ u ∷ w ∷ X1 ∷ X2 ∷ S ∷ [] in
+    within-cancel (pos (2 ^ 55)) (record { lt = tt }) (record {
+      low = le-comb ρ (le (mul-mono U U0 (h3 .low)) ∷ le (h1 .low) ∷ le (h2 .low) ∷ le (sq-nonneg u) ∷ le (sq-nonneg w) ∷ le U0 ∷ [])
+          ((2 ^ 53) ∷ (2 ^ 53 - 1) ∷ (2 ^ 53 - 1) ∷ (2 ^ 54 + 1) ∷ (2 ^ 54 + 1) ∷ (2 ^ 105 + 2 ^ 53) ∷ []) 0 (search quote depth 30) tt;
+      high = le-comb ρ (le (mul-mono U U0 (h3 .high)) ∷ le (h1 .high) ∷ le (h2 .high) ∷ le (sq-nonneg u) ∷ le (sq-nonneg w) ∷ le U0 ∷ [])
+          ((2 ^ 53) ∷ (2 ^ 53 + 1) ∷ (2 ^ 53 + 1) ∷ (2 ^ 54 - 1) ∷ (2 ^ 54 - 1) ∷ (2 ^ 105 - 2 ^ 53) ∷ []) 0 (search quote depth 30) tt;
+    })
 
 -- the square of at most 2 ^ 1580 units, rounded, is at most 2 ^ 2090 units
 square-size : {R : ℤ} (n : ℤ) → Rounded R (n *ℤ n) (pos (2 ^ 1074)) → natAbs n ≤ 2 ^ 1580 → natAbs R ≤ 2 ^ 2090
-square-size n r h =
-    le-trans (le-of-within (rounded-size {B = pos (2 ^ 2086)} (pos-lt (pow-pos 1074)) (pos-nonneg (2 ^ 2086)) r (within-natAbs {n = 2 ^ 2086 * 2 ^ 1074} (rw (natAbs-mul n n) (mul-le-mul h h))))) (lit≤ tt)
+square-size n r h = le-trans (rounded-natAbs (2 ^ 2086) (pow-pos 1074) r (rw (natAbs-mul n n) (mul-le-mul h h))) (lit≤ tt)
 
--- for numbers of at most 2 ^ 506 in size, so that no square overflows
-pub hypot-relative : {x y : Float} {u w : ℤ} → Is 1074 x u → Is 1074 y w → natAbs u ≤ 2 ^ 1580 → natAbs w ≤ 2 ^ 1580 → HypotNear (hypotOf x y) u w
-unfolding hypotOf
-hypot-relative {x} {y} {u} {w} h g hs gs =
+-- the sum of the squares of numbers of at most 2 ^ 506 in size, so that no square overflows
+pub squares-relative : {x y : Float} {u w : ℤ} → Is 1074 x u → Is 1074 y w → natAbs u ≤ 2 ^ 1580 → natAbs w ≤ 2 ^ 1580 → SquaresNear (add binary64 (mul binary64 x x) (mul binary64 y y)) u w
+squares-relative {x} {y} {u} {w} h g hs gs =
     let one : pos 0 ≺ pos 1 = record { lt = tt } in
     let U : pos 0 ≺ pos (2 ^ 1074) = pos-lt (pow-pos 1074) in
     let A = mul-result h h (le-trans (mul-le-mul hs hs) (lit≤ tt)) in
     let B = mul-result g g (le-trans (mul-le-mul gs gs) (lit≤ tt)) in
-    let C = add-result (A .is) (B .is) (le-trans (add-le-add (square-size u (A .rnd) hs) (square-size w (B .rnd) gs)) (lit≤ tt)) in
+    let small = add-le-add (square-size u (A .rnd) hs) (square-size w (B .rnd) gs) in
+    let C = add-result (A .is) (B .is) (le-trans small (lit≤ tt)) in
     let sum : pos 0 ≦ A .R +ℤ B .R = +ℤ-mono (rounded-nonneg U (A .rnd) (sq-nonneg u)) (rounded-nonneg U (B .rnd) (sq-nonneg w)) in
-    let D = sqrt-relative (C .is) (add-fits binary64 (mul binary64 x x) (mul binary64 y y)) (rounded-nonneg one (C .rnd) sum) in
     record {
-      d = D .d;
-      is = D .is;
-      plus = D .plus;
-      near = length-near (pos (2 ^ 1074)) u w (A .R) (B .R) (C .R) (D .d *ℤ D .d) (<ℤ→≤ℤ U)
-          (rounded-relative U (A .rnd) (self-bound (sq-nonneg u)))
-          (rounded-relative U (B .rnd) (self-bound (sq-nonneg w)))
-          (rounded-relative one (C .rnd) (self-bound sum))
-          (D .near);
+      S = C .R;
+      is = C .is;
+      plus = rounded-nonneg one (C .rnd) sum;
+      size = le-trans (rounded-natAbs (2 ^ 2091) (lit≤ tt) (C .rnd) (le-trans (natAbs-add (A .R) (B .R)) (le-trans small (lit≤ tt)))) (lit≤ tt);
+      near = sum-near (pos (2 ^ 1074)) u w (A .R) (B .R) (C .R) (<ℤ→≤ℤ U) (rounded-relative-plus U (A .rnd) (sq-nonneg u)) (rounded-relative-plus U (B .rnd) (sq-nonneg w)) (rounded-relative-plus one (C .rnd) sum);
     }
+
+-- N is u * u + w * w, S their sum in units of U squares, and D the square of its root
+length-near : (U N S D : ℤ) → pos 0 ≦ U → pos 0 ≦ N → Within (pos (2 ^ 51) *ℤ (S *ℤ U -ℤ N)) (N +ℤ pos (2 ^ 52) *ℤ U) → Within (pos (2 ^ 52) *ℤ (D -ℤ S *ℤ U)) D → Within (pos (2 ^ 50) *ℤ (D -ℤ N)) (N +ℤ pos (2 ^ 53) *ℤ U)
+length-near U N S D U0 N0 h g =
+    let ρ = U ∷ N ∷ S ∷ D ∷ [] in
+    record {
+      low = mul-cancel (pos (2 ^ 53 + 2)) (negℤ (N +ℤ pos (2 ^ 53) *ℤ U)) (pos (2 ^ 50) *ℤ (D -ℤ N)) (record { lt = tt })
+          (le-comb ρ (le (g .low) ∷ le (h .low) ∷ le N0 ∷ le U0 ∷ []) ((2 ^ 51) ∷ (2 ^ 52) ∷ (2 ^ 51 + 2) ∷ (2 ^ 106 + 2 ^ 54 - 2 ^ 104) ∷ []) 0 (search quote depth 30) tt);
+      high = mul-cancel (pos (2 ^ 53 - 2)) (pos (2 ^ 50) *ℤ (D -ℤ N)) (N +ℤ pos (2 ^ 53) *ℤ U) (record { lt = tt })
+          (le-comb ρ (le (g .high) ∷ le (h .high) ∷ le N0 ∷ le U0 ∷ []) ((2 ^ 51) ∷ (2 ^ 52) ∷ (2 ^ 51 - 2) ∷ (2 ^ 106 - 2 ^ 54 - 2 ^ 104) ∷ []) 0 (search quote depth 30) tt);
+    }
+
+-- of numbers of that size
+pub hypot-relative : {x y : Float} {u w : ℤ} → Is 1074 x u → Is 1074 y w → natAbs u ≤ 2 ^ 1580 → natAbs w ≤ 2 ^ 1580 → HypotNear (hypotOf x y) u w
+unfolding hypotOf
+hypot-relative {x} {y} {u} {w} h g hs gs =
+    let Q = squares-relative h g hs gs in
+    let D = sqrt-relative (Q .is) (add-fits binary64 (mul binary64 x x) (mul binary64 y y)) (Q .plus) in
+    record { d = D .d; is = D .is; plus = D .plus; near = length-near (pos (2 ^ 1074)) (u *ℤ u +ℤ w *ℤ w) (Q .S) (D .d *ℤ D .d) (pos-nonneg (2 ^ 1074)) (+ℤ-mono (sq-nonneg u) (sq-nonneg w)) (Q .near) (D .near) }

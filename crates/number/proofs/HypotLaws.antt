@@ -57,6 +57,20 @@ compared (fin s m e) nan h = absurd h
 compared (fin s m e) (inf t) h = (plus-fin m e, plus-inf)
 compared (fin s m e) (fin t n d) h = (plus-fin m e, plus-fin n d)
 
+-- so do the sums of the squares
+abbrev squares : Float → Float → Float
+squares a b = add binary64 (mul binary64 a a) (mul binary64 b b)
+
+squares-abs : (a b : Float) → squares a b ≡ squares (absOf a) (absOf b)
+squares-abs a b = ap₂ (λ (v w : Float). add binary64 v w) (square-abs a) (square-abs b)
+
+pub squares-mono : (a b c d : Float) → T (le (absOf a) (absOf c)) → T (le (absOf b) (absOf d)) → T (le (squares a b) (squares c d))
+squares-mono a b c d h k =
+    let p = compared a c h in
+    let q = compared b d k in
+    subst₂ (λ (v w : Float). T (le v w)) (sym (squares-abs a b)) (sym (squares-abs c d))
+    (add-mono (square-plus (p .0)) (square-plus (q .0)) (square-plus (p .1)) (square-plus (q .1)) (square-mono (p .0) (p .1) h) (square-mono (q .0) (q .1) k))
+
 pub hypot-mono : (a b c d : Float) → T (le (absOf a) (absOf c)) → T (le (absOf b) (absOf d)) → T (le (hypotOf a b) (hypotOf c d))
 unfolding hypotOf
 hypot-mono a b c d h k =
@@ -64,4 +78,4 @@ hypot-mono a b c d h k =
     let q = compared b d k in
     subst₂ (λ (v w : Float). T (le v w)) (sym (hypot-signs a b)) (sym (hypot-signs c d))
     (sqrt-mono (add-plus (square-plus (p .0)) (square-plus (q .0))) (add-plus (square-plus (p .1)) (square-plus (q .1)))
-    (add-mono (square-plus (p .0)) (square-plus (q .0)) (square-plus (p .1)) (square-plus (q .1)) (square-mono (p .0) (p .1) h) (square-mono (q .0) (q .1) k)))
+    (subst₂ (λ (v w : Float). T (le v w)) (squares-abs a b) (squares-abs c d) (squares-mono a b c d h k)))

@@ -9,6 +9,10 @@ pub mod RoundingLaws
 pub mod ExactLaws
 -- Comparisons of exact values are those of whole numbers.
 pub mod Compare
+-- The order of all floats, infinities included.
+pub mod OrderLaws
+-- Finite values: magnitudes, sizes of rounded results.
+pub mod Values
 -- Sums, differences, products and quotients keep the order of floats.
 pub mod Monotone
 -- ---- the square root
@@ -25,6 +29,8 @@ pub mod HypotZero
 pub mod HypotAxis
 -- The relative error.
 pub mod HypotError
+-- Which of two is less, by the sums of the squares.
+pub mod HypotClear
 -- ---- signs
 pub mod SignLaws
 -- ---- what those rest on

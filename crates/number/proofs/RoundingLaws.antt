@@ -184,6 +184,10 @@ rounded-relative {R} {n} {c} {M} C r h =
     (le-from (c ∷ M ∷ []) (L.le (≤ℤ-trans (pos-nonneg (natAbs n)) h) ∷ []) (search quote depth 30) (omega arith))
     (≤ℤ-trans h (le-from (c ∷ M ∷ []) (L.lt C ∷ []) (search quote depth 30) (omega arith)))
 
+-- of a value that is not negative
+pub rounded-relative-plus : {R n c : ℤ} → pos 0 ≺ c → Rounded R n c → pos 0 ≦ n → Within (pos (2 ^ 53) *ℤ (R *ℤ c -ℤ n)) (n +ℤ pos (2 ^ 52) *ℤ c)
+rounded-relative-plus C r N = rounded-relative C r (≤ℤ-of-eq (nonneg-nat N))
+
 -- the relative error of a value that is not subnormal
 pub rounded-relative-normal : {R n c : ℤ} → Rounded R n c → pos (2 ^ 52) *ℤ c ≦ absℤ n → Within (pos (2 ^ 53) *ℤ (R *ℤ c -ℤ n)) (absℤ n)
 rounded-relative-normal r h = relative-to r h (≤ℤ-of-eq refl)
@@ -202,7 +206,7 @@ rounded-size {R} {n} {c} {B} C B0 r w =
 -- the sign is kept
 pub rounded-nonneg : {R n c : ℤ} → pos 0 ≺ c → Rounded R n c → pos 0 ≦ n → pos 0 ≦ R
 rounded-nonneg {R} {n} {c} C r N =
-    let e = rounded-relative C r (≤ℤ-of-eq (nonneg-nat N)) in
+    let e = rounded-relative-plus C r N in
     half (mul-cancel c (pos 0) (pos 2 *ℤ R +ℤ pos 1) C (le-from (R ∷ n ∷ c ∷ []) (L.le (e .low) ∷ L.le N ∷ []) (search quote depth 30) (omega arith)))
   where
     half : pos 0 ≦ pos 2 *ℤ R +ℤ pos 1 → pos 0 ≦ R

@@ -5,7 +5,7 @@ ghost use Prim.Native.Nat.{_+_, _-_, _*_, _^_, _≤_, _<_};
 ghost use lib.Dec.{leb, ltb};
 ghost use lib.Ieee.{le, lt};
 ghost use Rattle.number.specs.Root.{rootOf, sqrtOf, Near};
-ghost use Rattle.number.specs.Hypot.{hypotOf, squareLeast, squareEnd};
+ghost use Rattle.number.specs.Hypot.{hypotOf, squareLeast, squareEnd, clearlyLess, clearLimit, Short};
 ghost use Rattle.number.specs.Signs.{absOf};
 use crate::signs::abs;
 use crate::signs::pick;
@@ -14,6 +14,11 @@ use crate::signs::pick;
 const SQUARE_LEAST: f64 = 1.4916681462400413e-154;
 
 const SQUARE_END: f64 = 1.3407807929942597e154;
+
+// 1 + 2^-40 and 2^-900.
+const SLACK: f64 = 1.0000000000009095;
+
+const TINY: f64 = 1.1830521861667747e-271;
 
 // A number of up to 106 bits: hi * 2^52 + lo.
 struct Wide {
@@ -179,4 +184,39 @@ pub fn hypot(a: f64, b: f64) -> f64
         return abs(b);
     }
     sqrt(a * a + b * b)
+}
+
+// Whether s is so far below t that the lengths whose squares they are differ too.
+pub fn clearly_less(s: f64, t: f64) -> bool
+    ensures { λ r. ⌜ r ≡ clearlyLess s t ⌝ }
+{
+    (TINY < t) & (SLACK * s < t)
+}
+
+// What is above this is so far above s.
+pub fn clear_limit(s: f64) -> f64
+    ensures { λ r. ⌜ r ≡ clearLimit s ⌝ }
+{
+    let u = SLACK * s;
+    pick(TINY < u, u, TINY)
+}
+
+// Whether hypot(a, b) is below hypot(c, d): by the squares, and by the roots only where those are close
+// and not of the same numbers.
+pub fn hypot_less(a: f64, b: f64, c: f64, d: f64) -> bool
+    requires { ⌜ Short a × Short b × Short c × Short d ⌝ }
+    ensures { λ r. ⌜ r ≡ lt (hypotOf a b) (hypotOf c d) ⌝ }
+{
+    if (a == c) & (b == d) {
+        return false;
+    }
+    let s = a * a + b * b;
+    let t = c * c + d * d;
+    if clearly_less(s, t) {
+        return true;
+    }
+    if clearly_less(t, s) {
+        return false;
+    }
+    hypot(a, b) < hypot(c, d)
 }

@@ -1,5 +1,6 @@
-// Outlines: the calls vk_outline_... . A list comes as its length and its numbers; an answer is the
-// refusal's number and the answer fields.
+// Outlines and ellipses: the calls vk_outline_... and vk_ellipse_nearest. A list comes as its length and
+// its numbers, an ellipse with its point as a list of six, a list that is lent to be written to as its
+// length; an answer is the refusal's number, the answer fields and such a list.
 ghost use Prim.Native.Nat.{_≤_};
 ghost use lib.ListN.{length};
 use crate::floats;
@@ -17,7 +18,20 @@ const CONTAINS: u64 = 0x636f_6e74_6169_6e73;
 
 const LOCATE: u64 = 0x6c6f_6361_7465;
 
+const DISTANCE: u64 = 0x6469_7374_616e_6365;
+
 const MAKE: u64 = 0x6d61_6b65;
+
+const FILL: u64 = 0x6669_6c6c;
+
+const ELLIPSE: u64 = 0x65_6c6c_6970_7365;
+
+// Two floats and the reader past them.
+struct Pair {
+    x: f64,
+    y: f64,
+    reader: Reader,
+}
 
 // Writes a refusal's number, a flag, a location or a count.
 fn print_number(n: u32) {
@@ -44,6 +58,15 @@ fn print_box(number: u32, min_x: f64, min_y: f64, max_x: f64, max_y: f64) {
     print_measure(min_y);
     print_measure(max_x);
     print_measure(max_y);
+    io::write_all(1, b"\n");
+}
+
+// Writes an answer that has three measures.
+fn print_three(number: u32, a: f64, b: f64, c: f64) {
+    print_number(number);
+    print_measure(a);
+    print_measure(b);
+    print_measure(c);
     io::write_all(1, b"\n");
 }
 
@@ -88,6 +111,37 @@ fn locate(v: &[f64], x: f64, y: f64) {
     print_told(number, location);
 }
 
+fn distance(v: &[f64], x: f64, y: f64) {
+    let mut d = 1.0;
+    let mut a = 1.0;
+    let mut b = 1.0;
+    let number = viskunor::outlines::vk_outline_distance(v, x, y, &mut d, &mut a, &mut b);
+    print_three(number, d, a, b);
+}
+
+// Centre, semi-axes, point.
+fn ellipse(v: &[f64]) {
+    if v.len() < 6 {
+        io::write_all(1, b"too short\n");
+        return;
+    }
+    let mut x = 1.0;
+    let mut y = 1.0;
+    let mut d = 1.0;
+    let number = viskunor::ellipses::vk_ellipse_nearest(
+        v[0],
+        v[1],
+        v[2],
+        v[3],
+        v[4],
+        v[5],
+        &mut x,
+        &mut y,
+        &mut d,
+    );
+    print_three(number, x, y, d);
+}
+
 // Writes a space and a float for each of the list.
 fn print_list(list: &[f64]) {
     let mut i = 0;
@@ -129,7 +183,37 @@ fn make_in(v: &[f64], n: usize, made: &mut [f64])
     print_made(number, count, &made[..n]);
 }
 
-// The operations on an outline alone.
+// Writes what a fill answers, and the lent list.
+fn print_filled(number: u32, fill: f64, work: &[f64]) {
+    print_number(number);
+    print_measure(fill);
+    print_list(work);
+    io::write_all(1, b"\n");
+}
+
+// Fills a cell, in a list of ones, of which n are lent.
+fn fill(v: &[f64], low: Pair, high: Pair, n: u64) {
+    let mut space = [1.0; 64];
+    fill_in(v, low, high, places(n, 64), &mut space);
+}
+
+fn fill_in(v: &[f64], low: Pair, high: Pair, n: usize, work: &mut [f64])
+    requires { ⌜ n ≤ length (now work) ⌝ }
+{
+    let mut fill = 1.0;
+    let number = viskunor::fills::vk_outline_fill(
+        v,
+        low.x,
+        low.y,
+        high.x,
+        high.y,
+        &mut work[..n],
+        &mut fill,
+    );
+    print_filled(number, fill, &work[..n]);
+}
+
+// The operations on a list alone.
 fn answer_alone(name: u64, v: &[f64]) {
     if name == AREA {
         return area(v);
@@ -140,19 +224,44 @@ fn answer_alone(name: u64, v: &[f64]) {
     if name == BOUNDS {
         return bounds(v);
     }
+    if name == ELLIPSE {
+        return ellipse(v);
+    }
     io::write_all(1, b"unknown\n");
+}
+
+// Two floats, a point's or a cell's corner, and the reader past them.
+fn two_floats(buf: &mut [u8], r: Reader) -> Pair {
+    let x = read::word(buf, r);
+    let y = read::word(buf, x.reader);
+    let reader = y.reader;
+    Pair {
+        x: floats::float(x.number),
+        y: floats::float(y.number),
+        reader,
+    }
 }
 
 // The operations with a point, which comes after the outline.
 fn answer_at(name: u64, buf: &mut [u8], r: Reader, v: &[f64]) -> Reader {
-    let x = read::word(buf, r);
-    let y = read::word(buf, x.reader);
+    let p = two_floats(buf, r);
     if name == CONTAINS {
-        contains(v, floats::float(x.number), floats::float(y.number));
+        contains(v, p.x, p.y);
+    } else if name == LOCATE {
+        locate(v, p.x, p.y);
     } else {
-        locate(v, floats::float(x.number), floats::float(y.number));
+        distance(v, p.x, p.y);
     }
-    y.reader
+    p.reader
+}
+
+// The fill: the cell's corners and the count of places come after the outline.
+fn answer_fill(buf: &mut [u8], r: Reader, v: &[f64]) -> Reader {
+    let low = two_floats(buf, r);
+    let high = two_floats(buf, low.reader);
+    let n = read::word(buf, high.reader);
+    fill(v, low, high, n.number);
+    n.reader
 }
 
 fn answer_of(name: u64, buf: &mut [u8], r: Reader, v: &[f64]) -> Reader {
@@ -161,7 +270,10 @@ fn answer_of(name: u64, buf: &mut [u8], r: Reader, v: &[f64]) -> Reader {
         make(v, n.number);
         return n.reader;
     }
-    if name == CONTAINS || name == LOCATE {
+    if name == FILL {
+        return answer_fill(buf, r, v);
+    }
+    if name == CONTAINS || name == LOCATE || name == DISTANCE {
         return answer_at(name, buf, r, v);
     }
     answer_alone(name, v);

@@ -1,12 +1,11 @@
 // What an answer of the geometry puts into the fields of a call: a refusal gives its number, and
 // zeros.
 ghost use mathlib.Core.Path.{_≡_};
-ghost use Rattle.geometry.specs.Answers.{numberOf, toldOf, measureOf, zeroBox, boxOf, zeroDistance, awayOf, zeroFoot, placeOf};
+ghost use Rattle.geometry.specs.Answers.{numberOf, toldOf, measureOf, zeroBox, boxOf, zeroDistance, awayOf};
+use boundary::Bounds;
 use boundary::Distance;
-use boundary::Foot;
 use boundary::Point;
 use geometry::Answer;
-use geometry::Bounds;
 
 // What a call returns.
 pub fn number_of(a: Answer) -> u32
@@ -18,7 +17,6 @@ pub fn number_of(a: Answer) -> u32
         Answer::Measure(_) => 0,
         Answer::Box(_) => 0,
         Answer::Away(_) => 0,
-        Answer::Place(_) => 0,
     }
 }
 
@@ -32,7 +30,6 @@ pub fn told_of(a: Answer) -> u32
         Answer::Measure(_) => 0,
         Answer::Box(_) => 0,
         Answer::Away(_) => 0,
-        Answer::Place(_) => 0,
     }
 }
 
@@ -45,7 +42,6 @@ pub fn measure_of(a: Answer) -> f64
         Answer::Measure(x) => x,
         Answer::Box(_) => 0.0,
         Answer::Away(_) => 0.0,
-        Answer::Place(_) => 0.0,
     }
 }
 
@@ -67,7 +63,6 @@ pub fn box_of(a: Answer) -> Bounds
         Answer::Measure(_) => zero_box(),
         Answer::Box(b) => b,
         Answer::Away(_) => zero_box(),
-        Answer::Place(_) => zero_box(),
     }
 }
 
@@ -76,7 +71,7 @@ fn zero_distance() -> Distance
 {
     Distance {
         d: 0.0,
-        n: Point { x: 0.0, y: 0.0 },
+        v: Point { x: 0.0, y: 0.0 },
     }
 }
 
@@ -89,29 +84,5 @@ pub fn away_of(a: Answer) -> Distance
         Answer::Measure(_) => zero_distance(),
         Answer::Box(_) => zero_distance(),
         Answer::Away(d) => d,
-        Answer::Place(_) => zero_distance(),
-    }
-}
-
-fn zero_foot() -> Foot
-    ensures { λ r. ⌜ r ≡ zeroFoot ⌝ }
-{
-    Foot {
-        d: 0.0,
-        q: Point { x: 0.0, y: 0.0 },
-    }
-}
-
-// A place and its distance.
-pub fn place_of(a: Answer) -> Foot
-    ensures { λ r. ⌜ r ≡ placeOf a ⌝ }
-{
-    match a {
-        Answer::Refused(_) => zero_foot(),
-        Answer::Told(_) => zero_foot(),
-        Answer::Measure(_) => zero_foot(),
-        Answer::Box(_) => zero_foot(),
-        Answer::Away(_) => zero_foot(),
-        Answer::Place(f) => f,
     }
 }

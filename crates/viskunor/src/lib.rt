@@ -2,6 +2,8 @@
 // declares these functions and says what they do in plain words.
 mod answers;
 pub mod ellipses;
+pub mod fills;
+pub mod indexes;
 pub mod outlines;
 
 ghost use mathlib.Core.Path.{_≡_};

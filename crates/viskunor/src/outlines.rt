@@ -92,13 +92,13 @@ pub extern "C" fn vk_outline_distance(
 ) -> u32
     ensures { λ r. ⌜ (r ≡ numberOf (distanceAnswer (now (vertices .entry)) (record { x = x; y = y })))
         × (now (distance .exit) ≡ awayOf (distanceAnswer (now (vertices .entry)) (record { x = x; y = y })) .d)
-        × (now («normal_x» .exit) ≡ awayOf (distanceAnswer (now (vertices .entry)) (record { x = x; y = y })) .n .x)
-        × (now («normal_y» .exit) ≡ awayOf (distanceAnswer (now (vertices .entry)) (record { x = x; y = y })) .n .y) ⌝ }
+        × (now («normal_x» .exit) ≡ awayOf (distanceAnswer (now (vertices .entry)) (record { x = x; y = y })) .v .x)
+        × (now («normal_y» .exit) ≡ awayOf (distanceAnswer (now (vertices .entry)) (record { x = x; y = y })) .v .y) ⌝ }
 {
     let distance_answer = geometry::polygon::distance(vertices, Point { x: x, y: y });
     let a = answers::away_of(distance_answer);
     *distance = a.d;
-    *normal_x = a.n.x;
-    *normal_y = a.n.y;
+    *normal_x = a.v.x;
+    *normal_y = a.v.y;
     answers::number_of(distance_answer)
 }

@@ -7,7 +7,7 @@ use borrow.Fn.Kinds.{In}
 use borrow.Fn.PlainCycle.{Measures, is, falls, and}
 use lib.Ieee.{lt}
 use Rattle.boundary.specs.Ellipse.{ellipseNearest}
-use Rattle.boundary.proofs.Asym.{lt-asym}
+use Rattle.number.proofs.OrderLaws.{lt-asym}
 use Rattle.boundary.proofs.ellipse.ellipse_nearest.Reads as ellipse-nearest
 use Rattle.boundary.proofs.ellipse.ellipse_nearest.Kinds as ellipse-nearest-kinds
 use Rattle.boundary.proofs.ellipse.+ellipse_nearest.Lts-ellipse_nearest as ellipse-nearest-lts

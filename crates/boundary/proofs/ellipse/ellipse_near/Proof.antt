@@ -1,5 +1,6 @@
 -- `boundary::ellipse::ellipse_near` meets its contract. Assumes nothing.
 use borrow.Author.Needs.{needs}
+use lib.Ieee.{ofBits}
 use Rattle.boundary.specs.Ellipse.{ellipseNear}
 use Rattle.boundary.proofs.ellipse.ellipse_near.Statement.{statement}
 use Rattle.boundary.proofs.ellipse.ellipse_near.Tie as tie
@@ -11,7 +12,7 @@ hypot-requires : tie.Need-hypot-requires
 hypot-requires c κs = search needs
 
 returns : tie.Need-returns
-unfolding ellipseNear
+unfolding ellipseNear ofBits
 returns c = rw (c .hypot .ensures, c .before .before .before .before .before .ellipse-foot .ensures)
 
 pub ellipse-near-spec : {M : Type 1} → statement M

@@ -13,14 +13,15 @@ point-in-field-requires-2 c κs = search needs
 ellipse-fits-requires : tie.Need-ellipse-fits-requires
 ellipse-fits-requires c κs = search needs
 
-ellipse-near-requires : tie.Need-ellipse-near-requires
-ellipse-near-requires c κs = search needs
+nearest-requires : tie.Need-nearest-requires
+nearest-requires c κs = search needs
 
 returns : tie.Need-returns
 unfolding ellipseAnswer
 returns c =
-    let d = c .before .before .before .before in
-    rw (← d .before .point-in-field .ensures, ← d .point-in-field2 .ensures, c .before .before .before .if1 .taken, ← c .before .before .ellipse-fits .ensures, c .before .if2 .taken, c .ellipse-near .ensures)
+    let b = c .before in
+    let d = b .before .before .before .before in
+    rw (← d .before .point-in-field .ensures, ← d .point-in-field2 .ensures, b .before .before .before .if1 .taken, ← b .before .before .ellipse-fits .ensures, b .before .if2 .taken, b .nearest .ensures)
 
 returns-2 : tie.Need-returns-2
 unfolding ellipseAnswer
@@ -33,4 +34,4 @@ unfolding ellipseAnswer
 returns-3 c = rw (← c .before .before .point-in-field .ensures, ← c .before .point-in-field2 .ensures, c .if1 .left)
 
 pub ellipse-nearest-spec : {M : Type 1} → statement M
-ellipse-nearest-spec = tie.close (tie.spec point-in-field-requires point-in-field-requires-2 ellipse-fits-requires ellipse-near-requires returns returns-2 returns-3)
+ellipse-nearest-spec = tie.close (tie.spec point-in-field-requires point-in-field-requires-2 ellipse-fits-requires nearest-requires returns returns-2 returns-3)

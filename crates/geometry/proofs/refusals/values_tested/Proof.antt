@@ -5,8 +5,9 @@ use borrow.Author.Needs.{needs}
 use denote.Ref.{now}
 use lib.Ieee.{Float, nan, inf, fin, le, neg}
 use lib.Ieee.Scale.{finite}
+use Rattle.boundary.specs.Boxes.{inField}
 use Rattle.boundary.proofs.FoldLaws.{any-none}
-use Rattle.geometry.specs.Refusals.{inField, valuesTested}
+use Rattle.geometry.specs.Refusals.{valuesTested}
 use Rattle.geometry.proofs.refusals.values_tested.Statement.{statement}
 use Rattle.geometry.proofs.refusals.values_tested.Tie as tie
 
@@ -17,21 +18,21 @@ field-is-finite (inf true) e = absurd (true≢false e)
 field-is-finite (inf false) e = absurd (true≢false e)
 field-is-finite (fin s m e) h = refl
 
-any-outside-requires : tie.Need-any-outside-requires
-any-outside-requires c κs = search needs
+any-unfit-requires : tie.Need-any-unfit-requires
+any-unfit-requires c κs = search needs
 
-any-not-finite-requires : tie.Need-any-not-finite-requires
-any-not-finite-requires c κs = search needs
+any-unfit-requires-2 : tie.Need-any-unfit-requires-2
+any-unfit-requires-2 c κs = search needs
 
 returns : tie.Need-returns
 unfolding valuesTested
-returns c = rw (← c .before .any-not-finite .ensures, c .if2 .taken)
+returns c = rw (← c .before .any-unfit2 .ensures, c .if2 .taken)
 
 returns-2 : tie.Need-returns-2
 unfolding valuesTested
 returns-2 c =
     let d = c .before .before in
-    rw (← c .before .any-not-finite .ensures, c .if2 .left, ← d .before .any-outside .ensures, d .if1 .taken)
+    rw (← c .before .any-unfit2 .ensures, c .if2 .left, ← d .before .any-unfit .ensures, d .if1 .taken)
 
 edges-tested-requires : tie.Need-edges-tested-requires
 edges-tested-requires c κs = search needs
@@ -40,8 +41,8 @@ returns-3 : tie.Need-returns-3
 unfolding valuesTested
 returns-3 c =
     let d = c .before .before in
-    let e = sym (d .any-outside .ensures) ∙ c .before .if1 .left in
+    let e = sym (d .any-unfit .ensures) ∙ c .before .if1 .left in
     rw (any-none _ _ field-is-finite (now (d .before .before .args .v)) e, e, c .edges-tested .ensures)
 
 pub values-tested-spec : {M : Type 1} → statement M
-values-tested-spec = tie.close (tie.spec any-outside-requires any-not-finite-requires returns returns-2 edges-tested-requires returns-3)
+values-tested-spec = tie.close (tie.spec any-unfit-requires any-unfit-requires-2 returns returns-2 edges-tested-requires returns-3)

@@ -19,9 +19,6 @@ enum-told-3 c = search needs
 enum-told-4 : tie.Need-enum-told-4
 enum-told-4 c = search needs
 
-enum-told-5 : tie.Need-enum-told-5
-enum-told-5 c = search needs
-
 returns : tie.Need-returns
 unfolding ofBits
 returns c = rw (c .enum-told .given .1)
@@ -41,11 +38,7 @@ returns-5 : tie.Need-returns-5
 unfolding ofBits
 returns-5 c = rw (c .enum-told4 .given .1)
 
-returns-6 : tie.Need-returns-6
-unfolding ofBits
-returns-6 c = rw (c .enum-told5 .given .1)
-
 pub measure-of-spec : {M : Type 1} → statement M
 measure-of-spec =
     tie.close
-    (tie.spec enum-told enum-told-2 enum-known-a enum-told-3 enum-told-4 enum-told-5 returns returns-2 returns-3 returns-4 returns-5 returns-6)
+    (tie.spec enum-told enum-told-2 enum-known-a enum-told-3 enum-told-4 returns returns-2 returns-3 returns-4 returns-5)

@@ -1,0 +1,91 @@
+-- Values of the field as whole numbers, their sums and differences, and boxes of such. Assumes nothing.
+use mathlib.Core.Path.{refl}
+use mathlib.Core.Bool.{not}
+use Prim.Native.Nat.{_^_, _≤_}
+use native.Mathlib.Nat.{le-trans, add-le-add}
+use lib.Dec.{T, lit≤}
+use lib.IntN.{ℤ, pos, negℤ, natAbs, _-ℤ_, _*ℤ_}
+use lib.Ieee.{Float, binary64, add, sub, neg, lt, le, isNan, fits}
+use lib.Ieee.Fits.{and-l, and-r, and-i, add-fits, sub-fits}
+use Rattle.algebra.specs.Order.{Within, within-natAbs, natAbs-neg, natAbs-add, le-of-within}
+use Rattle.number.specs.Exact.{Is, Sized, Held}
+use Rattle.number.specs.Hypot.{Short}
+use Rattle.number.specs.Signs.{absOf}
+use Rattle.number.proofs.Operations.{equation→is, neg-is, finite-is, is-held}
+use Rattle.number.proofs.RoundingLaws.{rounded-within}
+use Rattle.number.proofs.ExactLaws.{sub-result}
+use Rattle.number.proofs.OrderLaws.{is-order, order-is, finite-between}
+use Rattle.number.proofs.Values.{abs-is, abs-held, held-not-nan, rounded-natAbs, add-grown, is-short}
+use Rattle.boundary.specs.declared.Bounds.{Bounds}
+use Rattle.boundary.specs.Boxes.{limit, FieldValue, FieldBox, FiniteBox, widenedBy}
+
+-- ---- values of the field
+
+pub field-held : {x : Float} → FieldValue x → Held x
+field-held {x} h = record { fits = h .fits; finite = finite-between (neg limit) x limit (unfold neg in tt) tt (and-l (le (neg limit) x) (le x limit) (h .in-field)) (and-r (le (neg limit) x) (le x limit) (h .in-field)) }
+
+limit-is : Is 1074 limit (pos (2 ^ 1094))
+limit-is = equation→is limit refl
+
+-- at most 2 ^ 1094 units of 2 ^ -1074
+pub field-is : {x : Float} → FieldValue x → (z : ℤ) × Sized 1074 (2 ^ 1094) x z
+field-is {x} h =
+    let z = finite-is (field-held h) in (
+      z .0,
+      record {
+        is = z .1;
+        near = le-of-within (record {
+          low = is-order (neg-is limit-is) (z .1) (and-l (le (neg limit) x) (le x limit) (h .in-field));
+          high = is-order (z .1) limit-is (and-r (le (neg limit) x) (le x limit) (h .in-field));
+        });
+      },
+    )
+
+pub field-box-finite : {b : Bounds} → FieldBox b → FiniteBox b
+field-box-finite B = record { min = record { x = field-held (B .min .x); y = field-held (B .min .y) }; max = record { x = field-held (B .max .x); y = field-held (B .max .y) } }
+
+pub field-not-nan : {x : Float} → FieldValue x → T (not (isNan x))
+field-not-nan h = held-not-nan (field-held h)
+
+-- at most 2 ^ 1094 units is in the field
+pub is-field : {x : Float} {z : ℤ} → Sized 1074 (2 ^ 1094) x z → T (fits binary64 x) → FieldValue x
+is-field {x} {z} h F =
+    let w = within-natAbs {x = z} (h .near) in
+    record { fits = F; in-field = and-i (le (neg limit) x) (le x limit) (order-is (neg-is limit-is) (h .is) (w .low)) (order-is (h .is) limit-is (w .high)) }
+
+pub field-abs : {x : Float} → FieldValue x → FieldValue (absOf x)
+field-abs f = let z = field-is f in is-field (record { is = abs-is (z .1 .is); near = z .1 .near }) (abs-held (field-held f) .fits)
+
+-- the difference of two, E units: within 2 ^ -32 of the exact one
+pub record Way {a b : Float} (fa : FieldValue a) (fb : FieldValue b) : Type 0 where
+  pub E : ℤ
+  pub is : Is 1074 (sub binary64 b a) E
+  pub size : natAbs E ≤ 2 ^ 1097
+  pub near : Within (pos 2 *ℤ (E *ℤ pos 1 -ℤ (field-is fb .0 -ℤ field-is fa .0))) (pos (2 ^ 1043) *ℤ pos 1)
+
+pub way-of : {a b : Float} (fa : FieldValue a) (fb : FieldValue b) → Way fa fb
+way-of fa fb =
+    let z = field-is fa in
+    let w = field-is fb in
+    let both = le-trans (add-le-add (w .1 .near) (z .1 .near)) (lit≤ tt) in
+    let apart : natAbs (w .0 -ℤ z .0) ≤ 2 ^ 1095 = le-trans (natAbs-add (w .0) (negℤ (z .0))) (rw (natAbs-neg (z .0)) both) in
+    let R = sub-result (w .1 .is) (z .1 .is) (le-trans both (lit≤ tt)) in
+    record {
+      E = R .R;
+      is = R .is;
+      size = le-trans (rounded-natAbs (2 ^ 1095) (lit≤ tt) (R .rnd) apart) (lit≤ tt);
+      near = rounded-within {B = pos (2 ^ 1095)} 1043 (record { lt = tt }) (R .rnd) (within-natAbs apart) (record { lt = tt });
+    }
+
+pub field-sub : {x y : Float} → FieldValue x → FieldValue y → Short (sub binary64 x y)
+field-sub {x} {y} h g = let w = way-of g h in is-short (record { is = w .is; near = w .size }) (sub-fits binary64 x y)
+
+pub field-add : {x y : Float} → FieldValue x → FieldValue y → Held (add binary64 x y)
+field-add {x} {y} h g = is-held (add-grown (field-is h .1) (field-is g .1) (lit≤ tt) .1 .is) (add-fits binary64 x y)
+
+-- a box of the field, widened by a value of the field, is finite
+pub widened-finite : {b : Bounds} {w : Float} → FieldBox b → FieldValue w → FiniteBox (widenedBy w b)
+widened-finite B f = record {
+  min = record { x = field-sub (B .min .x) f .held; y = field-sub (B .min .y) f .held };
+  max = record { x = field-add (B .max .x) f; y = field-add (B .max .y) f };
+}

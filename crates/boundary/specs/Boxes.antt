@@ -1,0 +1,125 @@
+-- The field, and boxes: an edge's box, a box widened by a hair, and how far a point is from a box (document 01, index.rs). Definitions only.
+use mathlib.Core.Bool.{Bool, false, cond, _&&_}
+use lib.Dec.{T}
+use lib.IntN.{pos, negsuc}
+use lib.Ieee.{Float, fin, binary64, add, sub, mul, neg, lt, le, fits}
+use Rattle.number.specs.Exact.{Held, zeroᶠ}
+use Rattle.number.specs.Hypot.{hypotOf}
+use Rattle.number.specs.Signs.{absOf, maxOf}
+use Rattle.boundary.specs.declared.Point.{Point}
+use Rattle.boundary.specs.declared.Edge.{Edge}
+use Rattle.boundary.specs.declared.Bounds.{Bounds}
+use Rattle.boundary.specs.Line.{one}
+
+-- ---- the *field* (document 01): every finite number of magnitude at most 1,048,576
+abbrev pub limit : Float
+limit = fin false 1 (pos 20)
+
+abbrev pub inField : Float → Bool
+inField x = le (neg limit) x && le x limit
+
+abbrev pub pointInField : Point → Bool
+pointInField p = inField (p .x) && inField (p .y)
+
+abbrev pub edgeInField : Edge → Bool
+edgeInField e = pointInField (e .a) && pointInField (e .b)
+
+-- what holds of a point's two coordinates, of an edge's ends, of a box's corners
+pub record PointOf (P : Float → Type 0) (p : Point) : Type 0 where
+  pub x : P (p .x)
+  pub y : P (p .y)
+
+pub record EdgeOf (P : Float → Type 0) (e : Edge) : Type 0 where
+  pub a : PointOf P (e .a)
+  pub b : PointOf P (e .b)
+
+pub record BoxOf (P : Float → Type 0) (b : Bounds) : Type 0 where
+  pub min : PointOf P (b .min)
+  pub max : PointOf P (b .max)
+
+-- x is an `f64` of the field, and the same of points, edges and boxes
+pub record FieldValue (x : Float) : Type 0 where
+  pub fits : T (fits binary64 x)
+  pub in-field : T (inField x)
+
+abbrev pub FieldPoint : Point → Type 0
+FieldPoint p = PointOf FieldValue p
+
+abbrev pub FieldEdge : Edge → Type 0
+FieldEdge e = EdgeOf FieldValue e
+
+abbrev pub FieldBox : Bounds → Type 0
+FieldBox b = BoxOf FieldValue b
+
+-- a box with finite corners
+abbrev pub FiniteBox : Bounds → Type 0
+FiniteBox b = BoxOf Held b
+
+-- ---- a point in a box, and a box around another
+-- lo ≤ q ≤ hi
+pub record Between (lo q hi : Float) : Type 0 where
+  pub low : T (le lo q)
+  pub high : T (le q hi)
+
+-- t, an `f64`, is a share of the way: from 0 to 1
+pub record Share (t : Float) : Type 0 where
+  pub held : Held t
+  pub between : Between zeroᶠ t one
+
+pub record Inside (p : Point) (b : Bounds) : Type 0 where
+  pub x : Between (b .min .x) (p .x) (b .max .x)
+  pub y : Between (b .min .y) (p .y) (b .max .y)
+
+-- the box n is around the box b: it has both corners of it
+pub record Around (n b : Bounds) : Type 0 where
+  pub left : T (le (n .min .x) (b .min .x))
+  pub right : T (le (b .max .x) (n .max .x))
+  pub bottom : T (le (n .min .y) (b .min .y))
+  pub top : T (le (b .max .y) (n .max .y))
+
+-- ---- the box of an edge
+-- of two numbers the lesser and the greater, the first where they are equal
+abbrev pub lesser : Float → Float → Float
+lesser a b = cond (lt b a) b a
+
+abbrev pub greater : Float → Float → Float
+greater a b = cond (lt a b) b a
+
+unfoldable pub edgeBox : Edge → Bounds
+unfolding lt
+edgeBox e = record {
+  min = record { x = lesser (e .a .x) (e .b .x); y = lesser (e .a .y) (e .b .y) };
+  max = record { x = greater (e .a .x) (e .b .x); y = greater (e .a .y) (e .b .y) };
+}
+
+-- ---- `widened`: by 10⁻⁹ of the largest of 1 and the corners' magnitudes
+abbrev pub nano : Float
+nano = fin false 4835703278458517 (negsuc 81)
+
+-- 2 ^ -31: a box widened by that much or more has the nearest point of every edge that lies in the box
+abbrev pub hair : Float
+hair = fin false 1 (negsuc 30)
+
+unfoldable pub scaleOf : Bounds → Float
+unfolding maxOf absOf
+scaleOf b = maxOf (maxOf (maxOf (maxOf one (absOf (b .min .x))) (absOf (b .min .y))) (absOf (b .max .x))) (absOf (b .max .y))
+
+-- widened by m
+abbrev pub widenedBy : Float → Bounds → Bounds
+widenedBy m b = record {
+  min = record { x = sub binary64 (b .min .x) m; y = sub binary64 (b .min .y) m };
+  max = record { x = add binary64 (b .max .x) m; y = add binary64 (b .max .y) m };
+}
+
+unfoldable pub widenedOf : Bounds → Bounds
+unfolding scaleOf add sub mul
+widenedOf b = widenedBy (mul binary64 nano (scaleOf b)) b
+
+-- ---- the gap of a box, as `nearest` has it: how far p is outside lo to hi, of one axis, and the length of both
+unfoldable pub gapAlong : Float → Float → Float → Float
+unfolding maxOf sub
+gapAlong lo hi p = maxOf (maxOf (sub binary64 lo p) (sub binary64 p hi)) zeroᶠ
+
+unfoldable pub gapOf : Bounds → Point → Float
+unfolding gapAlong hypotOf
+gapOf b p = hypotOf (gapAlong (b .min .x) (b .max .x) (p .x)) (gapAlong (b .min .y) (b .max .y) (p .y))

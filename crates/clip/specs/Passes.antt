@@ -1,0 +1,112 @@
+-- The clip by two passes over whole lines, as the code does it: the first looks at the marks, the second writes a path. Inner definitions, proved equal to those of Clip. Definitions only.
+use mathlib.Core.Bool.{Bool, true, false, not, _&&_, _||_, cond}
+use mathlib.Core.List.{List, [], _∷_, _++_}
+use Prim.Native.Nat.{ℕ, suc}
+use lib.Dec.{eqb}
+use lib.Ieee.{Float, binary64, add, mul, lt, le, eq, ne}
+use Rattle.number.specs.Exact.{zeroᶠ}
+use Rattle.boundary.specs.declared.Point.{Point}
+use Rattle.boundary.specs.declared.Edge.{Edge}
+use Rattle.boundary.specs.Folds.{fold}
+use Rattle.boundary.specs.Line.{one, alongOf}
+use Rattle.boundary.specs.Ellipse.{half}
+use Rattle.clip.specs.declared.Side.{Side}
+use Rattle.clip.specs.declared.Marks.{Marks}
+use Rattle.clip.specs.declared.Survey.{Survey}
+use Rattle.clip.specs.declared.Pen.{Pen}
+use Rattle.clip.specs.Clip.{at, coordOf, crossing, crosses}
+
+-- ---- the marks of a line
+-- whether a coordinate is inside
+abbrev pub coordInside : Side → Float → Bool
+coordInside s c = cond (s .above) (le (s .v) c) (le c (s .v))
+
+-- whether a line is cut: its coordinate, which grows by d, meets the bound at u
+abbrev pub cutAt : Float → Float → Bool
+cutAt d u = (ne d zeroᶠ && lt zeroᶠ u) && lt u one
+
+-- whether the point at u is, on a line whose coordinate goes from a to b
+unfoldable pub markAt : Side → Float → Float → Float → Bool
+markAt s a b u = coordInside s (alongOf a b u)
+
+-- whether the middle of the part from u to v is
+abbrev pub markOf : Side → Edge → Float → Float → Bool
+markOf s e u v = markAt s (coordOf s (e .a)) (coordOf s (e .b)) (mul binary64 half (add binary64 u v))
+
+-- whether a line is cut and where, and the marks of its first and its last part
+unfoldable pub marksOf : Side → Edge → Marks
+marksOf s e =
+    let u = crossing s e in
+    let whole = markAt s (coordOf s (e .a)) (coordOf s (e .b)) half in
+    cond (crosses s e)
+    (record { cut = true; u = u; fore = markOf s e zeroᶠ u; aft = markOf s e u one })
+    (record { cut = false; u = u; fore = whole; aft = whole })
+
+-- the first part and the last; a line that is not cut is its own first part
+unfoldable pub firstOf : Marks → Edge → Edge
+firstOf m e = cond (m .cut) (record { a = at e zeroᶠ; b = at e (m .u) }) e
+
+unfoldable pub secondOf : Marks → Edge → Edge
+secondOf m e = record { a = at e (m .u); b = e .b }
+
+-- ---- the first pass
+-- a line comes in: a part of it is kept, and the part before that one is not
+abbrev pub comesIn : Bool → Marks → Bool
+comesIn before m = (m .fore && not before) || (m .aft && not (m .fore))
+
+-- how many lines stand before the first that comes in; `before` is the mark of the part before them
+unfoldable pub startOf : Side → Bool → List Edge → ℕ
+startOf s before [] = 0
+startOf s before (e ∷ es) = cond (comesIn before (marksOf s e)) 0 (suc (startOf s (marksOf s e .aft) es))
+
+-- the last line is the one before the first
+abbrev pub surveyOf : Side → Edge → List Edge → Survey
+surveyOf s last es = record { kept = marksOf s last .aft; start = startOf s (marksOf s last .aft) es }
+
+-- ---- the second pass
+-- a path: where it starts and ends, and its lines
+pub record Path : Type 0 where
+  pub pen : Pen
+  pub out : List Edge
+
+abbrev pub samePlace : Point → Point → Bool
+samePlace p q = eq (p .x) (q .x) && eq (p .y) (q .y)
+
+-- a line that is written or not
+abbrev pub if-on : Bool → Edge → List Edge
+if-on on e = cond on (e ∷ []) []
+
+abbrev pub lineOf : Point → Point → Edge
+lineOf p q = record { a = p; b = q }
+
+-- a joint is needed: the path has begun, and ends elsewhere than at q
+abbrev pub joinsOf : Pen → Point → Bool
+joinsOf p q = not (eqb (p .begun) 0) && not (samePlace (p .last) q)
+
+abbrev pub movedOf : Pen → Edge → Pen
+movedOf p e = record { begun = 1; start = record { x = cond (eqb (p .begun) 0) (e .a .x) (p .start .x); y = cond (eqb (p .begun) 0) (e .a .y) (p .start .y) }; last = e .b }
+
+-- the path with e after it, where e is kept
+unfoldable pub followed : Path → Edge → Bool → Path
+followed t e true = record { pen = movedOf (t .pen) e; out = (t .out ++ if-on (joinsOf (t .pen) (e .a)) (lineOf (t .pen .last) (e .a))) ++ (e ∷ []) }
+followed t e false = t
+
+-- the path with the parts of e after it
+unfoldable pub stepOf : Side → Path → Edge → Path
+stepOf s t e =
+    let m = marksOf s e in
+    followed (followed t (firstOf m e) (m .fore)) (secondOf m e) (m .cut && m .aft)
+
+abbrev pub nowhere : Pen
+nowhere = record { begun = 0; start = record { x = zeroᶠ; y = zeroᶠ }; last = record { x = zeroᶠ; y = zeroᶠ } }
+
+abbrev pub nothing : Path
+nothing = record { pen = nowhere; out = [] }
+
+-- the path closed
+unfoldable pub closed : Path → List Edge
+closed t = t .out ++ if-on (joinsOf (t .pen) (t .pen .start)) (lineOf (t .pen .last) (t .pen .start))
+
+-- the closed path of the lines of es, and then of those of fs
+unfoldable pub traced : Side → List Edge → List Edge → List Edge
+traced s es fs = closed (fold (stepOf s) (fold (stepOf s) nothing es) fs)

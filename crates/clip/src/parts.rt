@@ -1,0 +1,98 @@
+// The parts of a line, and which of them are inside.
+ghost use mathlib.Core.Path.{_≡_};
+ghost use Rattle.clip.specs.Clip.{at, coordOf};
+ghost use Rattle.clip.specs.Passes.{coordInside, cutAt, markAt, marksOf, firstOf, secondOf};
+use crate::Marks;
+use crate::Side;
+use boundary::Edge;
+use boundary::Point;
+use boundary::line::along;
+use number::signs::pick;
+
+// The coordinate that the half-plane bounds.
+fn coord(s: Side, p: Point) -> f64
+    ensures { λ r. ⌜ r ≡ coordOf s p ⌝ }
+{
+    pick(s.y, p.y, p.x)
+}
+
+// Whether a coordinate is inside; the bound itself is.
+fn is_inside(s: Side, c: f64) -> bool
+    ensures { λ r. ⌜ r ≡ coordInside s c ⌝ }
+{
+    if s.above { c >= s.v } else { c <= s.v }
+}
+
+// Whether a line is cut: its coordinate, which grows by d, meets the bound at u, between its ends.
+fn is_cut(d: f64, u: f64) -> bool
+    ensures { λ r. ⌜ r ≡ cutAt d u ⌝ }
+{
+    (d != 0.0) & (u > 0.0) & (u < 1.0)
+}
+
+// Whether the point at u is inside, on a line whose coordinate goes from a to b.
+fn mark(s: Side, a: f64, b: f64, u: f64) -> bool
+    ensures { λ r. ⌜ r ≡ markAt s a b u ⌝ }
+{
+    is_inside(s, along(a, b, u))
+}
+
+// The marks of a line.
+pub fn marked(s: Side, e: Edge) -> Marks
+    ensures { λ r. ⌜ r ≡ marksOf s e ⌝ }
+{
+    let a = coord(s, e.a);
+    let b = coord(s, e.b);
+    let d = b - a;
+    let u = (s.v - a) / d;
+    if is_cut(d, u) {
+        return Marks {
+            cut: true,
+            u,
+            fore: mark(s, a, b, 0.5 * (0.0 + u)),
+            aft: mark(s, a, b, 0.5 * (u + 1.0)),
+        };
+    }
+    let whole = mark(s, a, b, 0.5);
+    Marks {
+        cut: false,
+        u,
+        fore: whole,
+        aft: whole,
+    }
+}
+
+// The point at u along a line.
+fn point_at(e: Edge, u: f64) -> Point
+    ensures { λ r. ⌜ r ≡ at e u ⌝ }
+{
+    Point {
+        x: along(e.a.x, e.b.x, u),
+        y: along(e.a.y, e.b.y, u),
+    }
+}
+
+// The first part of a line; the line itself where it is not cut.
+pub fn first(m: Marks, e: Edge) -> Edge
+    ensures { λ r. ⌜ r ≡ firstOf m e ⌝ }
+{
+    if m.cut {
+        Edge {
+            a: point_at(e, 0.0),
+            b: point_at(e, m.u),
+        }
+    } else {
+        e
+    }
+}
+
+// The second part of a line that is cut.
+pub fn second(m: Marks, e: Edge) -> Edge
+    ensures { λ r. ⌜ r ≡ secondOf m e ⌝ }
+{
+    let b = e.b;
+    Edge {
+        a: point_at(e, m.u),
+        b,
+    }
+}

@@ -1,0 +1,176 @@
+// The second pass: the kept parts, written as one path. Lines past the room are counted and not written.
+ghost use mathlib.Core.Path.{_≡_};
+ghost use mathlib.Core.Bool.{cond};
+ghost use mathlib.Core.List.{List, _++_};
+ghost use Prim.Native.Nat.{_+_, _-_, _*_, _<_, _≤_};
+ghost use lib.ListN.{length};
+ghost use Rattle.boundary.specs.declared.Edge.{Edge};
+ghost use Rattle.boundary.specs.Folds.{fold};
+ghost use Rattle.clip.specs.Passes.{Path, samePlace, if-on, lineOf, joinsOf, movedOf, followed, stepOf, nowhere, traced};
+ghost use Rattle.clip.specs.Lent.{lineAt, linesFrom, putAt, apart, Beside, Holds, Tracks};
+use crate::Pen;
+use crate::Side;
+use crate::State;
+use crate::parts;
+use crate::scan;
+use boundary::Edge;
+use boundary::Point;
+use number::signs::pick;
+
+fn put(w: &mut [f64], o: usize, e: Edge)
+    requires { ⌜ o + 4 ≤ length (now w) ⌝ }
+    ensures { λ _. ⌜ now (w .exit) ≡ putAt (now (w .entry)) o e ⌝ }
+{
+    w[o] = e.a.x;
+    w[o + 1] = e.a.y;
+    w[o + 2] = e.b.x;
+    w[o + 3] = e.b.y;
+}
+
+// Writes e as line `at` of those from `to` on, where `on` is set and there is room; counts it all the same.
+pub fn emit(w: &mut [f64], to: usize, room: usize, at: usize, e: Edge, on: bool) -> usize
+    requires { ⌜ (to + 4 * room ≤ length (now w)) × (at < 9223372036854775808) ⌝ }
+    ensures { λ r. ⌜ (r ≡ at + cond on 1 0) × Beside to (4 * room) (now (w .entry)) (now (w .exit))
+        × ((es : List Edge) → Holds to room (now (w .entry)) at es → Holds to room (now (w .exit)) r (es ++ if-on on e)) ⌝ }
+{
+    if !on {
+        return at;
+    }
+    if at < room {
+        put(w, to + 4 * at, e);
+        return at + 1;
+    }
+    at + 1
+}
+
+fn same_place(p: Point, q: Point) -> bool
+    ensures { λ r. ⌜ r ≡ samePlace p q ⌝ }
+{
+    (p.x == q.x) & (p.y == q.y)
+}
+
+// Whether a joint is needed from the path's end to q.
+fn joins(p: Pen, q: Point) -> bool
+    ensures { λ r. ⌜ r ≡ joinsOf p q ⌝ }
+{
+    (p.begun != 0) & !same_place(p.last, q)
+}
+
+fn line(p: Point, q: Point) -> Edge
+    ensures { λ r. ⌜ r ≡ lineOf p q ⌝ }
+{
+    Edge { a: p, b: q }
+}
+
+// The path once e is written.
+fn moved(p: Pen, e: Edge) -> Pen
+    ensures { λ r. ⌜ r ≡ movedOf p e ⌝ }
+{
+    let last = e.b;
+    Pen {
+        begun: 1,
+        start: Point {
+            x: pick(p.begun == 0, e.a.x, p.start.x),
+            y: pick(p.begun == 0, e.a.y, p.start.y),
+        },
+        last,
+    }
+}
+
+// Writes a part that is kept, after the joint to it.
+fn follow(w: &mut [f64], to: usize, room: usize, s: State, e: Edge, kept: bool) -> State
+    requires { ⌜ (to + 4 * room ≤ length (now w)) × (s .at < 6917529027641081856) ⌝ }
+    ensures { λ r. ⌜ (r .at ≤ s .at + 2) × Beside to (4 * room) (now (w .entry)) (now (w .exit))
+        × ((t : Path) → Tracks to room (now (w .entry)) s t → Tracks to room (now (w .exit)) r (followed t e kept)) ⌝ }
+{
+    if !kept {
+        return s;
+    }
+    let pen = s.pen;
+    let at = emit(w, to, room, s.at, line(pen.last, e.a), joins(pen, e.a));
+    let next = emit(w, to, room, at, e, true);
+    State {
+        pen: moved(pen, e),
+        at: next,
+    }
+}
+
+// Writes the parts of the line that stands at o.
+fn step(w: &mut [f64], side: Side, o: usize, to: usize, room: usize, s: State) -> State
+    requires { ⌜ (o + 4 ≤ length (now w)) × (to + 4 * room ≤ length (now w)) × (s .at < 4611686018427387904) ⌝ }
+    ensures { λ r. ⌜ (r .at ≤ s .at + 4) × Beside to (4 * room) (now (w .entry)) (now (w .exit))
+        × ((t : Path) → Tracks to room (now (w .entry)) s t → Tracks to room (now (w .exit)) r (stepOf side t (lineAt (now (w .entry)) o))) ⌝ }
+{
+    let e = scan::line_at(w, o);
+    let m = parts::marked(side, e);
+    let a = follow(w, to, room, s, parts::first(m, e), m.fore);
+    follow(w, to, room, a, parts::second(m, e), m.cut & m.aft)
+}
+
+// Writes the parts of `count` lines, from line lo of the n that stand from `from` on.
+fn run(
+    w: &mut [f64],
+    side: Side,
+    from: usize,
+    n: usize,
+    to: usize,
+    room: usize,
+    lo: usize,
+    count: usize,
+    s: State,
+) -> State
+    requires { ⌜ (from + 4 * n ≤ length (now w)) × (to + 4 * room ≤ length (now w)) × (lo + count ≤ n) × apart from (4 * n) to (4 * room) × (s .at ≤ 4 * n) ⌝ }
+    ensures { λ r. ⌜ (r .at ≤ s .at + 4 * count) × Beside to (4 * room) (now (w .entry)) (now (w .exit))
+        × ((t : Path) → Tracks to room (now (w .entry)) s t → Tracks to room (now (w .exit)) r (fold (stepOf side) t (linesFrom (now (w .entry)) from lo count))) ⌝ }
+{
+    let mut now = s;
+    let mut k = 0;
+    while k < count {
+        let i = lo + k;
+        now = step(w, side, from + 4 * i, to, room, now);
+        k += 1;
+    }
+    now
+}
+
+fn empty() -> State
+    ensures { λ r. ⌜ r ≡ record { pen = nowhere; at = 0 } ⌝ }
+{
+    let p = Point { x: 0.0, y: 0.0 };
+    State {
+        pen: Pen {
+            begun: 0,
+            start: p,
+            last: p,
+        },
+        at: 0,
+    }
+}
+
+// Writes the path of the n lines at `from`, from line `start` on and going round; how many lines it has,
+// of which `room` are written.
+pub fn trace(
+    w: &mut [f64],
+    side: Side,
+    from: usize,
+    n: usize,
+    to: usize,
+    room: usize,
+    start: usize,
+) -> usize
+    requires { ⌜ (from + 4 * n ≤ length (now w)) × (to + 4 * room ≤ length (now w)) × (start ≤ n) × apart from (4 * n) to (4 * room) ⌝ }
+    ensures { λ r. ⌜ Beside to (4 * room) (now (w .entry)) (now (w .exit))
+        × Holds to room (now (w .exit)) r (traced side (linesFrom (now (w .entry)) from start (n - start)) (linesFrom (now (w .entry)) from 0 start)) ⌝ }
+{
+    let a = run(w, side, from, n, to, room, start, n - start, empty());
+    let b = run(w, side, from, n, to, room, 0, start, a);
+    let pen = b.pen;
+    emit(
+        w,
+        to,
+        room,
+        b.at,
+        line(pen.last, pen.start),
+        joins(pen, pen.start),
+    )
+}

@@ -1,0 +1,57 @@
+// The first pass over a list of lines: whether its parts are kept, and where the path starts.
+ghost use mathlib.Core.Path.{_≡_};
+ghost use Prim.Native.Nat.{_+_, _-_, _*_, _≤_};
+ghost use lib.ListN.{length};
+ghost use Rattle.clip.specs.Passes.{comesIn, surveyOf};
+ghost use Rattle.clip.specs.Lent.{lineAt, lineIn, linesFrom};
+use crate::Marks;
+use crate::Side;
+use crate::Survey;
+use crate::parts;
+use boundary::Edge;
+use boundary::Point;
+
+// The line that stands at o.
+pub fn line_at(w: &[f64], o: usize) -> Edge
+    requires { ⌜ o + 4 ≤ length (now w) ⌝ }
+    ensures { λ r. ⌜ r ≡ lineAt (now (w .entry)) o ⌝ }
+{
+    Edge {
+        a: Point {
+            x: w[o],
+            y: w[o + 1],
+        },
+        b: Point {
+            x: w[o + 2],
+            y: w[o + 3],
+        },
+    }
+}
+
+// Whether a line comes in: a part of it is kept, and the part before that one is not.
+fn comes_in(before: bool, m: Marks) -> bool
+    ensures { λ r. ⌜ r ≡ comesIn before m ⌝ }
+{
+    (m.fore & !before) | (m.aft & !m.fore)
+}
+
+// Looks at the n lines that stand from `from` on; the last is the one before the first. Where no line
+// comes in, all parts are marked as the last one is.
+pub fn surveyed(w: &[f64], from: usize, n: usize, s: Side) -> Survey
+    requires { ⌜ (1 ≤ n) × (from + 4 * n ≤ length (now w)) ⌝ }
+    ensures { λ r. ⌜ (r ≡ surveyOf s (lineIn (now (w .entry)) from (n - 1)) (linesFrom (now (w .entry)) from 0 n)) × (r .start ≤ n) ⌝ }
+{
+    let last = parts::marked(s, line_at(w, from + 4 * (n - 1)));
+    let kept = last.aft;
+    let mut before = kept;
+    let mut i = 0;
+    while i < n {
+        let m = parts::marked(s, line_at(w, from + 4 * i));
+        if comes_in(before, m) {
+            return Survey { kept, start: i };
+        }
+        before = m.aft;
+        i += 1;
+    }
+    Survey { kept, start: n }
+}

@@ -1,0 +1,52 @@
+-- `fill::cell::fill_in` meets its contract. Assumes nothing.
+use Prim.Native.Nat.{_*_}
+use native.Mathlib.Nat.{le-refl}
+use native.Mathlib.Omega.{arith}
+use lib.ListN.{length}
+use Rattle.clip.proofs.LentLaws.{rest-kept}
+use Rattle.fill.specs.Fill.{fillOf}
+use Rattle.fill.specs.Answers.{halfOf, filled, cleared}
+use Rattle.fill.proofs.FillLaws.{widened}
+use borrow.Author.Needs.{needs}
+use Rattle.fill.proofs.cell.fill_in.Statement.{statement}
+use Rattle.fill.proofs.cell.fill_in.Tie as tie
+
+write-edges-requires : tie.Need-write-edges-requires
+write-edges-requires c κs = search needs
+
+four-requires : tie.Need-four-requires
+four-requires c κs = (rw (c .before .before .before .write-edges .ensures .0 .same) (omega arith), c .before .before .before .before .before .before .before .pre)
+
+summed-requires : tie.Need-summed-requires
+summed-requires c κs = rw (c .before .before .before .four .ensures .0, c .before .before .before .before .before .before .before .write-edges .ensures .0 .same) (omega arith)
+
+mul-clear : tie.Need-mul-clear
+mul-clear c = search needs
+
+clear-requires : tie.Need-clear-requires
+clear-requires c κs = rw (c .before .before .before .before .before .four .ensures .0, c .before .before .before .before .before .before .before .before .before .write-edges .ensures .0 .same) (omega arith)
+
+same-length : tie.Need-same-length
+same-length c = search needs
+
+returns : tie.Need-returns
+unfolding filled fillOf cleared
+returns c =
+    let c8 = c .before .before .before .before .before .before .before .before in
+    let c12 = c8 .before .before .before .before in
+    let c16 = c12 .before .before .before .before in (
+      c .before .before .before .before .summed .ensures _ _ (c8 .four .ensures .2 _ (widened (c12 .write-edges .ensures .1) (le-refl _))),
+      rw (c .before .before .clear .ensures, c8 .four .ensures .1, rest-kept (c12 .write-edges .ensures .0) (8 * halfOf (length (c16 .args .w .now))) (omega (arith, c16 .pre))),
+    )
+
+pub fill-in-spec : {M : Type 1} → statement M
+fill-in-spec =
+    tie.close
+    (tie.spec
+    write-edges-requires
+    four-requires
+    summed-requires
+    mul-clear
+    clear-requires
+    same-length
+    returns)

@@ -1,0 +1,21 @@
+// The fill of a cell by an outline (boundary.rs, `fill`), in a lent buffer of two halves.
+pub mod cell;
+pub mod tests;
+
+ghost use mathlib.Core.Path.{_≡_};
+ghost use lib.ListN.{length};
+ghost use Rattle.fill.specs.Answers.{fillAnswer, fillBuffer};
+use boundary::Bounds;
+use geometry::Answer;
+use geometry::Verdict;
+
+// The fill of the cell c, with w as working space.
+pub fn fill(v: &[f64], c: Bounds, w: &mut [f64]) -> Answer
+    ensures { λ r. ⌜ (r ≡ fillAnswer (now (v .entry)) c (length (now (w .entry))))
+        × (now (w .exit) ≡ fillBuffer (now (v .entry)) c (now (w .entry))) ⌝ }
+{
+    match tests::fill_tested(v, c, w.len()) {
+        Verdict::Passed(_) => cell::fill_in(v, c, w),
+        Verdict::Failed(r) => Answer::Refused(r),
+    }
+}

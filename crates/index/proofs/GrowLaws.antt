@@ -1,0 +1,136 @@
+-- What building over a whole list leaves, and what a list that passes the tests has. Assumes nothing.
+use mathlib.Core.Path.{_≡_, refl, ap, _∙_}
+use mathlib.Core.Bool.{Bool, true, false, not, cond, _||_, true≢false}
+use mathlib.Core.List.{List, _++_}
+use Prim.Native.Nat.{ℕ, _+_, _-_, _*_, _%_, _≤_}
+use native.Mathlib.Nat.{sub-zero}
+use native.Mathlib.Omega.{arith}
+use lib.Dec.{eqb, ltb}
+use lib.ListN.{length, take, drop}
+use lib.Seq.{length-take-le, take-at, drop-at, sets}
+use lib.Ieee.{Float}
+use borrow.Author.Tests.{ltb-false, eqb-true}
+use Rattle.boundary.specs.declared.Bounds.{Bounds}
+use Rattle.boundary.specs.Folds.{run, any}
+use Rattle.geometry.specs.declared.Refusal.{Refusal}
+use Rattle.geometry.specs.declared.Refusal.the-variants.{TooMany, BadBox}
+use Rattle.geometry.specs.Making.{atFront}
+use Rattle.index.specs.declared.Test.{Test}
+use Rattle.index.specs.declared.Test.the-variants.{Passed, Failed}
+use Rattle.index.specs.Entries.{boxCount, boxNumbers, flat, boxesOf, wideAt, centreOf}
+use Rattle.index.specs.Tree.{treeIn, indexOf, itemsOf}
+use Rattle.index.specs.Layout.{extra, nodesOf, cornersOf, linksOf, Grown}
+use Rattle.index.specs.Answers.{boxFits, boxesTested, cellTested, roomTested, shortIndex, buildTested, Stored, Accepted}
+use Rattle.index.proofs.StoreLaws.{length-run, sets-front, flat-length}
+use Rattle.index.proofs.EntryLaws.{wide-held, centres-held}
+use Rattle.index.proofs.TreeLaws.{length-items, nodes-suffice}
+use Rattle.index.proofs.LayoutLaws.{length-below, placed-front}
+
+-- the first k of a list that begins with F
+front-of : {A : Type 0} (s₀ s F : List A) (k : ℕ) → s ≡ sets s₀ 0 F → length F ≡ k → k ≤ length s₀ → take (k - 0) (drop 0 s) ≡ F
+front-of s₀ s F k e l h = rw (e, sets-front s₀ F (omega arith), sub-zero k) (take-at F (drop (length F) s₀) k l)
+
+module _ (v : List Float) where
+  abbrev n : ℕ
+  n = boxCount v
+
+  abbrev numbers : List ℕ
+  numbers = run (λ i. i) 0 n
+
+  pub length-index-items : length (itemsOf (indexOf v)) ≡ n
+  unfolding indexOf
+  length-index-items = length-items (wideAt v) (λ i. centreOf (wideAt v i)) numbers ∙ length-run (λ i. i) 0 n
+
+  pub index-nodes : n ≤ 1024 → length (nodesOf (indexOf v)) ≤ 511
+  unfolding indexOf
+  index-nodes h = nodes-suffice (wideAt v) (λ i. centreOf (wideAt v i)) numbers (rw (length-run (λ i. i) 0 n) h)
+
+  module _ (whole : length v % 4 ≡ 0) (W₀ W X₀ X Y₀ Y : List Float)
+      (eW : W ≡ sets W₀ 0 (flat boxNumbers (run (wideAt v) 0 n))) (eX : X ≡ sets X₀ 0 (run (λ i. centreOf (wideAt v i) .x) 0 n)) (eY : Y ≡ sets Y₀ 0 (run (λ i. centreOf (wideAt v i) .y) 0 n))
+      (lW : 4 * n ≤ length W₀) (lX : n ≤ length X₀) (lY : n ≤ length Y₀) where
+    -- the tree over what the lists hold is the index
+    held-tree : treeIn (take (4 * n - 0) (drop 0 W)) (take (n - 0) (drop 0 X)) (take (n - 0) (drop 0 Y)) numbers ≡ indexOf v
+    unfolding indexOf
+    held-tree =
+        let b = flat-length boxNumbers 4 (λ _. refl) (run (wideAt v) 0 n) in
+        let l = length-run (wideAt v) 0 n in
+        let w = front-of W₀ W (flat boxNumbers (run (wideAt v) 0 n)) (4 * n) eW (omega arith) lW in
+        let x = front-of X₀ X (run (λ i. centreOf (wideAt v i) .x) 0 n) n eX (length-run (λ i. centreOf (wideAt v i) .x) 0 n) lX in
+        let y = front-of Y₀ Y (run (λ i. centreOf (wideAt v i) .y) 0 n) n eY (length-run (λ i. centreOf (wideAt v i) .y) 0 n) lY in
+        rw (w, x, y, wide-held v whole, centres-held v whole)
+
+    pub grown-all : (C C′ : List Float) (L L′ is₀ is₁ Z : List ℕ) (r : ℕ) → n ≤ 1024 → 2044 ≤ length C → 1022 ≤ length L → 1024 ≤ length is₀
+        → is₁ ≡ run (λ i. i) 0 (length (take n is₀))
+        → Grown (treeIn (take (4 * n - 0) (drop 0 W)) (take (n - 0) (drop 0 X)) (take (n - 0) (drop 0 Y)) (take n (is₁ ++ drop n is₀))) 0 0 1 C L r Z C′ L′
+        → Stored (indexOf v) C L is₀ r C′ L′ (Z ++ drop n (is₁ ++ drop n is₀))
+    unfolding atFront nodesOf
+    grown-all C C′ L L′ is₀ is₁ Z r small c l i e g =
+        let f : is₁ ≡ numbers = e ∙ ap (λ (k : ℕ). run (λ i. i) 0 k) (length-take-le n is₀ (omega arith)) in
+        let m : length is₁ ≡ n = ap length f ∙ length-run (λ i. i) 0 n in
+        let t : Grown (indexOf v) 0 0 1 C L r Z C′ L′ = rw (take-at is₁ (drop n is₀) n m, f, held-tree) at g in
+        let k = index-nodes small in
+        let free : r ≡ 1 + extra (indexOf v) = t .free in
+        let below = length-below (indexOf v) 0 1 in
+        record {
+          nodes = omega arith;
+          corners = t .corners ∙ placed-front cornersOf 4 (λ _. refl) (indexOf v) C (omega arith);
+          links = t .links ∙ placed-front linksOf 2 (λ _. refl) (indexOf v) L (omega arith);
+          items = rw (drop-at is₁ (drop n is₀) n m, t .items, length-index-items);
+        }
+
+-- ---- what a list that passes the tests has
+pub or-none : (a b : Bool) → (a || b) ≡ false → (a ≡ false) × (b ≡ false)
+or-none true b e = absurd (true≢false e)
+or-none false b e = (refl, e)
+
+abbrev failed : Test → Bool
+failed Passed = false
+failed (Failed r) = true
+
+never : {r : Refusal} → Failed r ≡ Passed → ⊥
+never e = true≢false (ap failed e)
+
+pub room-passed : (s : Bool) (t : Test) → roomTested s t ≡ Passed → (s ≡ false) × (t ≡ Passed)
+unfolding roomTested
+room-passed true Passed e = absurd (never e)
+room-passed false Passed e = (refl, refl)
+room-passed s (Failed r) e = absurd (never e)
+
+-- what tests 4 and 11 say of a list that passes them
+record Fit (v : List Float) : Type 0 where
+  size : length v ≤ 4096
+  whole : length v % 4 ≡ 0
+  fit : any (λ b. not (boxFits b)) (boxesOf v) ≡ false
+
+fit-of : (v : List Float) → boxesTested v ≡ Passed → Fit v
+unfolding boxesTested
+fit-of v = go (ltb 4096 (length v)) refl (eqb (length v % 4) 0) refl (any (λ x. not (boxFits x)) (boxesOf v)) refl
+  where
+    go : (a : Bool) → ltb 4096 (length v) ≡ a → (b : Bool) → eqb (length v % 4) 0 ≡ b → (c : Bool) → any (λ x. not (boxFits x)) (boxesOf v) ≡ c
+        → cond a (Failed TooMany) (cond b (cond c (Failed BadBox) Passed) (Failed BadBox)) ≡ Passed → Fit v
+    go true e b f c g p = absurd (never p)
+    go false e true f true g p = absurd (never p)
+    go false e true f false g p = record { size = ltb-false 4096 (length v) e; whole = eqb-true (length v % 4) 0 f; fit = g }
+    go false e false f c g p = absurd (never p)
+
+pub boxes-passed : (v : List Float) → boxesTested v ≡ Passed → (length v ≤ 4096) × (length v % 4 ≡ 0)
+boxes-passed v p = (fit-of v p .size, fit-of v p .whole)
+
+pub boxes-fit : (v : List Float) → boxesTested v ≡ Passed → any (λ b. not (boxFits b)) (boxesOf v) ≡ false
+boxes-fit v p = fit-of v p .fit
+
+pub cell-passed : (c : Bounds) (t : Test) → cellTested c t ≡ Passed → t ≡ Passed
+unfolding cellTested
+cell-passed c Passed e = refl
+cell-passed c (Failed r) e = absurd (never e)
+
+pub accepted-of : (v : List Float) (c l i : ℕ) → shortIndex c l i ≡ false → boxesTested v ≡ Passed → Accepted v c l i
+accepted-of v c l i e p =
+    let b = fit-of v p in
+    let s = or-none (ltb c 2044) (ltb l 1022 || ltb i 1024) e in
+    let t = or-none (ltb l 1022) (ltb i 1024) (s .1) in
+    record { size = b .size; whole = b .whole; corners = ltb-false c 2044 (s .0); links = ltb-false l 1022 (t .0); items = ltb-false i 1024 (t .1) }
+
+pub accepted : (v : List Float) (c l i : ℕ) → buildTested v c l i ≡ Passed → Accepted v c l i
+unfolding buildTested
+accepted v c l i e = let p = room-passed (shortIndex c l i) (boxesTested v) e in accepted-of v c l i (p .0) (p .1)

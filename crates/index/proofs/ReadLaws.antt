@@ -1,0 +1,144 @@
+-- What the build leaves holds the tree: each node stands at its number, each leaf's items at its place. Assumes nothing.
+use mathlib.Core.Path.{_≡_, refl, sym, ap, ap₂, _∙_}
+use mathlib.Core.List.{List, [], _∷_, _++_}
+use Prim.Native.Nat.{ℕ, zero, suc, _+_, _*_, _^_, _≤_, _<_}
+use native.Mathlib.Nat.{add-zero, pow-suc}
+use native.Mathlib.Omega.{arith}
+use lib.Dec.{leb}
+use lib.ListN.{length, getD, drop, List·getD-append}
+use lib.Seq.{getD-append-add, ext-getD}
+use lib.Ieee.{Float, nan}
+use Rattle.boundary.specs.declared.Point.{Point}
+use Rattle.boundary.specs.declared.Bounds.{Bounds}
+use Rattle.boundary.specs.Folds.{run}
+use Rattle.geometry.specs.Making.{atFront}
+use Rattle.sorts.proofs.SortLaws.{length-sort}
+use Rattle.index.specs.declared.Node.{Node}
+use Rattle.index.specs.Entries.{boxAt, flat}
+use Rattle.index.specs.Tree.{Tree, leaf, inner, hullOf, treeOf, itemsOf}
+use Rattle.index.specs.Layout.{extra, nodeOf, below, nodesOf, cornersOf, linksOf, itemAt, firstAt, countAt}
+use Rattle.index.proofs.StoreLaws.{length-run, run-at, flat-at}
+use Rattle.index.proofs.TreeLaws.{left, right, length-left, length-right, tree-induct}
+use Rattle.index.proofs.LayoutLaws.{length-below}
+
+abbrev pub boxOf : Node → Bounds
+boxOf x = record { min = x .lo; max = x .hi }
+
+-- what stands before the end does not depend on what is said to stand past it
+getD-default : {A : Type 0} (xs : List A) (i : ℕ) (d e : A) → i < length xs → getD xs i d ≡ getD xs i e
+getD-default [] i d e h = absurd (omega arith)
+getD-default (x ∷ xs) zero d e h = refl
+getD-default (x ∷ xs) (suc i) d e h = getD-default xs i d e (omega arith)
+
+module _ (B : List Float) (L I : List ℕ) where
+  -- node n is x
+  pub record NodeIs (n : ℕ) (x : Node) : Type 0 where
+    pub box : boxAt B n ≡ boxOf x
+    pub first : firstAt L n ≡ x .first
+    pub count : countAt L n ≡ x .count
+
+  same : (m k : ℕ) (x y : Node) → m ≡ k → x ≡ y → NodeIs m x → NodeIs k y
+  same m k x y e f s = rw (e, f) at s
+
+  -- the tree t stands at node n, the nodes below it from `next` on, and its items from `at` on
+  pub record Holds (t : Tree) (at n next : ℕ) : Type 0 where
+    pub own : NodeIs n (nodeOf t at next)
+    pub rest : (j : ℕ) → j < extra t → NodeIs (next + j) (getD (below t at next) j (nodeOf t at next))
+    pub items : run (itemAt I) at (length (itemsOf t)) ≡ itemsOf t
+
+  -- a run that is two lists is the one, then the other
+  two-runs : (a : ℕ) (xs ys : List ℕ) → run (itemAt I) a (length (xs ++ ys)) ≡ xs ++ ys → (run (itemAt I) a (length xs) ≡ xs) × (run (itemAt I) (a + length xs) (length ys) ≡ ys)
+  unfolding run
+  two-runs a [] ys e = (refl, ap (λ (k : ℕ). run (itemAt I) k (length ys)) (add-zero a) ∙ e)
+  two-runs a (x ∷ xs) ys e =
+      let h : itemAt I a ≡ x = cc in
+      let r : run (itemAt I) (suc a) (length (xs ++ ys)) ≡ xs ++ ys = cc in
+      let p = two-runs (suc a) xs ys r in
+      let k : suc a + length xs ≡ a + suc (length xs) = omega arith in
+      (ap₂ (λ (u : ℕ) (l : List ℕ). u ∷ l) h (p .0), ap (λ (m : ℕ). run (itemAt I) m (length ys)) (sym k) ∙ p .1)
+
+  -- ---- the children
+  module _ (b : Bounds) (l r : Tree) (at n next : ℕ) (h : Holds (inner b l r) at n next) where
+    abbrev second : ℕ
+    second = at + length (itemsOf l)
+
+    abbrev free : ℕ
+    free = next + 2 + extra l
+
+    pub holds-first : Holds l at next (next + 2)
+    unfolding below extra itemsOf
+    holds-first = record {
+      own = same (next + 0) next _ (nodeOf l at (next + 2)) (omega arith) refl (h .rest 0 (omega arith));
+      rest = λ j k.
+          same (next + suc (suc j)) (next + 2 + j) _ (getD (below l at (next + 2)) j (nodeOf l at (next + 2))) (omega arith)
+          (List·getD-append (below l at (next + 2)) (below r second free) _ j (rw (length-below l at (next + 2)) k) ∙ getD-default (below l at (next + 2)) j _ _ (rw (length-below l at (next + 2)) k))
+          (h .rest (suc (suc j)) (omega arith));
+      items = two-runs at (itemsOf l) (itemsOf r) (h .items) .0;
+    }
+
+    pub holds-second : Holds r second (next + 1) free
+    unfolding below extra itemsOf
+    holds-second = record {
+      own = same (next + 1) (next + 1) _ (nodeOf r second free) refl refl (h .rest 1 (omega arith));
+      rest = λ j k.
+          let n = length-below l at (next + 2) in
+          same (next + suc (suc (extra l + j))) (free + j) _ (getD (below r second free) j (nodeOf r second free)) (omega arith)
+          (ap (λ (m : ℕ). getD (below l at (next + 2) ++ below r second free) (m + j) (nodeOf (inner b l r) at next)) (sym n) ∙ getD-append-add (below l at (next + 2)) (below r second free) j _ ∙ getD-default (below r second free) j _ _ (rw (length-below r second free) k))
+          (h .rest (suc (suc (extra l + j))) (omega arith));
+      items = two-runs at (itemsOf l) (itemsOf r) (h .items) .1;
+    }
+
+-- ---- what the build leaves
+module _ (N : List Node) (RB : List Float) (RL : List ℕ) (e : Node) where
+  -- the node j of the list N
+  node-is : (I : List ℕ) (j : ℕ) → j < length N → NodeIs (flat cornersOf N ++ RB) (flat linksOf N ++ RL) I j (getD N j e)
+  unfolding boxAt
+  node-is I j h =
+      let four : 4 * j + 0 ≡ 4 * j = omega arith in
+      let two : 2 * j + 0 ≡ 2 * j = omega arith in
+      let corner : (k : ℕ) → k < 4 → getD (flat cornersOf N ++ RB) (4 * j + k) nan ≡ getD (cornersOf (getD N j e)) k nan = λ k l. flat-at cornersOf 4 (λ _. refl) N RB j k nan e h l in
+      let link : (k : ℕ) → k < 2 → getD (flat linksOf N ++ RL) (2 * j + k) 0 ≡ getD (linksOf (getD N j e)) k 0 = λ k l. flat-at linksOf 2 (λ _. refl) N RL j k 0 e h l in
+      let left = ap (λ (k : ℕ). getD (flat cornersOf N ++ RB) k nan) (sym four) ∙ corner 0 (omega arith) in
+      record {
+        box = rw (left, corner 1 (omega arith), corner 2 (omega arith), corner 3 (omega arith));
+        first = ap (λ (k : ℕ). getD (flat linksOf N ++ RL) k 0) (sym two) ∙ link 0 (omega arith);
+        count = link 1 (omega arith);
+      }
+
+run-front : (xs rest : List ℕ) → run (itemAt (xs ++ rest)) 0 (length xs) ≡ xs
+run-front xs rest =
+    let n = length-run (itemAt (xs ++ rest)) 0 (length xs) in
+    ext-getD 0 (run (itemAt (xs ++ rest)) 0 (length xs)) xs n
+    (λ i h. let l : i < length xs = rw n at h in let z : 0 + i ≡ i = omega arith in run-at (itemAt (xs ++ rest)) 0 (length xs) i 0 l ∙ ap (itemAt (xs ++ rest)) z ∙ List·getD-append xs rest 0 i l)
+
+-- THE BUFFER holds the tree
+pub stored-holds : (t : Tree) (C : List Float) (L is : List ℕ) → Holds (atFront (flat cornersOf (nodesOf t)) C) (atFront (flat linksOf (nodesOf t)) L) (atFront (itemsOf t) is) t 0 0 1
+unfolding atFront nodesOf
+stored-holds t C L is =
+    let N = nodeOf t 0 1 ∷ below t 0 1 in
+    let n = length-below t 0 1 in
+    let at = node-is N (drop (length (flat cornersOf N)) C) (drop (length (flat linksOf N)) L) (nodeOf t 0 1) (itemsOf t ++ drop (length (itemsOf t)) is) in
+    record {
+      own = at 0 (omega arith);
+      rest = λ j h. same _ _ _ (suc j) (1 + j) _ _ (omega arith) refl (at (suc j) (omega arith));
+      items = run-front (itemsOf t) (drop (length (itemsOf t)) is);
+    }
+
+-- ---- a tree of 1 to 1,024 items has at most nine levels, and each leaf has an item
+unfoldable pub Deep : ℕ → Tree → Type 0
+Deep zero t = ⊥
+Deep (suc d) (leaf b is) = 0 < length is
+Deep (suc d) (inner b l r) = Deep d l × Deep d r
+
+pub tree-deep : (W : ℕ → Bounds) (C : ℕ → Point) (k : ℕ) (is : List ℕ) → length is ≤ 4 * 2 ^ k → 0 < length is → Deep (suc k) (treeOf W C is)
+unfolding Deep
+tree-deep W C k is h s = tree-induct W C (λ is t. (k : ℕ) → length is ≤ 4 * 2 ^ k → 0 < length is → Deep (suc k) t) (λ is _ k _ s. rw (length-sort leb is) s) step (length is) is (omega arith) k h s
+  where
+    step : (is : List ℕ) (l r : Tree) → 4 < length is → ((k : ℕ) → length (left C is) ≤ 4 * 2 ^ k → 0 < length (left C is) → Deep (suc k) l) → ((k : ℕ) → length (right C is) ≤ 4 * 2 ^ k → 0 < length (right C is) → Deep (suc k) r)
+        → (k : ℕ) → length is ≤ 4 * 2 ^ k → 0 < length is → Deep (suc k) (inner (hullOf W is) l r)
+    step is l r h p q zero n s = absurd (omega arith)
+    step is l r h p q (suc k) n s =
+        let e : 2 ^ suc k ≡ 2 ^ k * 2 = pow-suc 2 k in
+        let a = length-left C is in
+        let b = length-right C is in
+        (p k (omega arith) (omega arith), q k (omega arith) (omega arith))

@@ -1,0 +1,91 @@
+-- The tests of a box list and of a cell, in document 01's order, and what building answers. Definitions only.
+use mathlib.Core.Path.{_≡_}
+use mathlib.Core.Bool.{Bool, not, cond, _&&_, _||_}
+use mathlib.Core.List.{List}
+use Prim.Native.Nat.{ℕ, _%_, _≤_}
+use lib.Dec.{eqb, ltb}
+use lib.ListN.{length}
+use lib.Ieee.{Float, neg, le}
+use Rattle.boundary.specs.declared.Bounds.{Bounds}
+use Rattle.boundary.specs.Boxes.{inField}
+use Rattle.boundary.specs.Folds.{any}
+use Rattle.geometry.specs.declared.Refusal.the-variants.{TooMany, BadBox, ShortBuffer}
+use Rattle.geometry.specs.Making.{atFront}
+use Rattle.geometry.specs.Refusals.{number}
+use Rattle.index.specs.declared.Test.{Test}
+use Rattle.index.specs.declared.Test.the-variants.{Passed, Failed}
+use Rattle.index.specs.declared.Built.{Built}
+use Rattle.index.specs.declared.Built.the-variants.{Refused, Sized}
+use Rattle.index.specs.Entries.{boxesOf, flat}
+use Rattle.index.specs.Tree.{Tree, itemsOf}
+use Rattle.index.specs.Layout.{nodesOf, cornersOf, linksOf}
+
+-- a box of the field, no minimum above its maximum
+unfoldable pub boxFits : Bounds → Bool
+unfolding neg le
+boxFits b = inField (b .min .x) && (inField (b .min .y) && (inField (b .max .x) && (inField (b .max .y) && (le (b .min .x) (b .max .x) && le (b .min .y) (b .max .y)))))
+
+-- ---- tests 4 and 11 of a box list, 11 of a cell, and 13
+unfoldable pub boxesTested : List Float → Test
+unfolding boxFits boxesOf any
+boxesTested v =
+    cond (ltb 4096 (length v)) (Failed TooMany)
+    (cond (eqb (length v % 4) 0) (cond (any (λ b. not (boxFits b)) (boxesOf v)) (Failed BadBox) Passed) (Failed BadBox))
+
+unfoldable pub cellTested : Bounds → Test → Test
+unfolding boxFits
+cellTested c Passed = cond (boxFits c) Passed (Failed BadBox)
+cellTested c (Failed r) = Failed r
+
+-- `short`: a lent buffer is shorter than its stated size
+unfoldable pub roomTested : Bool → Test → Test
+roomTested short Passed = cond short (Failed ShortBuffer) Passed
+roomTested short (Failed r) = Failed r
+
+-- an index buffer of so many corner numbers, link numbers and items is too short: 511 nodes and 1,024 items
+abbrev pub shortIndex : ℕ → ℕ → ℕ → Bool
+shortIndex corners links items = ltb corners 2044 || (ltb links 1022 || ltb items 1024)
+
+-- ---- building
+unfoldable pub buildTested : List Float → ℕ → ℕ → ℕ → Test
+unfolding boxesTested roomTested
+buildTested v corners links items = roomTested (shortIndex corners links items) (boxesTested v)
+
+unfoldable pub builtFor : Tree → Test → Built
+unfolding nodesOf itemsOf
+builtFor t Passed = Sized (length (nodesOf t)) (length (itemsOf t))
+builtFor t (Failed r) = Refused r
+
+-- what it puts into a lent list: xs at the front, and the places past their end unchanged; nothing where it refuses
+unfoldable pub writtenFor : {A : Type 0} → List A → List A → Test → List A
+unfolding atFront
+writtenFor xs s Passed = atFront xs s
+writtenFor xs s (Failed r) = s
+
+-- what the call returns and puts into its answer fields: a refusal gives its number, and zeros
+abbrev pub builtNumber : Built → ℕ
+builtNumber (Refused r) = number r
+builtNumber (Sized n k) = 0
+
+abbrev pub nodesIn : Built → ℕ
+nodesIn (Refused r) = 0
+nodesIn (Sized n k) = n
+
+abbrev pub itemsIn : Built → ℕ
+itemsIn (Refused r) = 0
+itemsIn (Sized n k) = k
+
+-- what building a tree leaves: how many nodes there are, their corners, their links and the items
+pub record Stored (t : Tree) (C : List Float) (L is : List ℕ) (r : ℕ) (C′ : List Float) (L′ is′ : List ℕ) : Type 0 where
+  pub nodes : r ≡ length (nodesOf t)
+  pub corners : C′ ≡ atFront (flat cornersOf (nodesOf t)) C
+  pub links : L′ ≡ atFront (flat linksOf (nodesOf t)) L
+  pub items : is′ ≡ atFront (itemsOf t) is
+
+-- a box list that passes the tests, and buffers of index size
+pub record Accepted (v : List Float) (c l n : ℕ) : Type 0 where
+  pub size : length v ≤ 4096
+  pub whole : length v % 4 ≡ 0
+  pub corners : 2044 ≤ c
+  pub links : 1022 ≤ l
+  pub items : 1024 ≤ n

@@ -1,0 +1,8 @@
+-- Laws of `meeting`.
+
+-- Runs of stores, past the end too, and one level of the walk.
+pub mod WalkLaws
+-- The walk of the buffer lists what `meeting` says.
+pub mod MeetingLaws
+-- Every box that shares a point with the cell is listed.
+pub mod Theorems

@@ -1,0 +1,47 @@
+-- `meeting::clear_counts` meets its contract. Assumes nothing.
+use Rattle.meeting.proofs.WalkLaws.{Clearing, clearing-none, clearing-more, clearing-all}
+use Prim.Native.Nat.{_-_}
+use borrow.Author.Needs.{needs}
+use Rattle.meeting.proofs.clear_counts.Statement.{statement}
+use Rattle.meeting.proofs.clear_counts.Tie as tie
+
+abbrev Inv-loop : tie.InvT-loop
+Inv-loop s₀ n i₀ s i = Clearing 0 s₀ n s i
+
+abbrev μ-loop : tie.MeasureT-loop
+μ-loop s₀ n i₀ s i = n - i
+
+loop-holds : tie.Need-loop-holds Inv-loop μ-loop
+loop-holds c = clearing-none _ _ _
+
+put-requires : tie.Need-put-requires Inv-loop μ-loop
+put-requires c κs = search needs
+
+add-i : tie.Need-add-i Inv-loop μ-loop
+add-i c = search needs
+
+loop-less : tie.Need-loop-less Inv-loop μ-loop
+loop-less c = search needs
+
+loop-again : tie.Need-loop-again Inv-loop μ-loop
+loop-again c = clearing-more 0 _ _ _ _ _ (c .before .before .before .before .before .loop .inv) (c .before .before .before .before .loop-test .taken) (c .before .before .put .ensures)
+
+same-length : tie.Need-same-length Inv-loop μ-loop
+same-length c = c .before .loop .inv .same
+
+returns : tie.Need-returns Inv-loop μ-loop
+returns c = clearing-all _ _ _ _ _ (c .before .before .before .pre) (c .before .loop .inv) (c .loop-test .left)
+
+pub clear-counts-spec : {M : Type 1} → statement M
+clear-counts-spec =
+    tie.close
+    (tie.spec
+    Inv-loop
+    μ-loop
+    loop-holds
+    put-requires
+    add-i
+    loop-less
+    loop-again
+    same-length
+    returns)

@@ -1,0 +1,8 @@
+-- What `meeting` promises. Definitions only.
+
+-- The items of the leaves that share a point with a cell.
+pub mod Meeting
+-- The walk of the index buffer.
+pub mod Walk
+-- The tests, and what the call answers.
+pub mod Answers

@@ -1,0 +1,93 @@
+-- What the call answers for an ellipse: it is finite, and comes from a point in the quadrant of the query. Assumes nothing.
+use mathlib.Core.Path.{_≡_, refl, subst}
+use mathlib.Core.Bool.{Bool, true, false, _&&_, cond}
+use Prim.Native.Nat.{ℕ}
+use native.Mathlib.Omega.{arith}
+use lib.Dec.{T}
+use lib.Ieee.{Float, binary64, add, sub, neg, le, fits}
+use lib.Ieee.Fits.{and-l, and-r, sub-fits}
+use Rattle.number.specs.Exact.{zeroᶠ}
+use Rattle.number.specs.Hypot.{hypotOf}
+use Rattle.number.specs.Signs.{absOf}
+use Rattle.boundary.specs.declared.Point.{Point}
+use Rattle.boundary.specs.declared.Distance.{Distance}
+use Rattle.boundary.specs.Ellipse.{ellipseNearest, ellipseNear}
+use Rattle.boundary.specs.Piece.{pieceNear}
+use Rattle.geometry.specs.declared.Answer.the-variants.{Refused, Away}
+use Rattle.geometry.specs.declared.Refusal.{Refusal}
+use Rattle.geometry.specs.declared.Refusal.the-variants.{BadPoint, BadEllipse}
+use Rattle.boundary.specs.Boxes.{inField, pointInField}
+use Rattle.geometry.specs.Ellipse.{axisFits, offsetFits, ellipseFits, ellipseAnswer}
+use Rattle.oval.specs.Oval.{Offset, FitsPoint, OvalAnswer, lessCentre}
+use Rattle.oval.proofs.Ranges.{Ranged, Bounded, power, tested-range, sum-range, difference-range, abs-range, hypot-range}
+use Rattle.oval.proofs.Nearest.{Found, ellipse-found}
+
+-- ---- what the tests say
+abbrev InField : Float → Type 0
+InField x = Bounded 20 x
+
+field-range : {x : Float} → T (fits binary64 x) → T (inField x) → InField x
+unfolding neg fits
+field-range {x} F t = tested-range x F t tt
+
+offset-of : {c p : Float} → InField c → InField p → T (offsetFits c p) → Offset (sub binary64 p c)
+unfolding offsetFits fits
+offset-of {c} {p} C P t =
+    let d : Bounded 21 (sub binary64 p c) = difference-range P C tt in
+    let m : Ranged zeroᶠ (power 21) (absOf (sub binary64 p c)) = abs-range d tt in
+    record { fits = sub-fits binary64 p c; most = m .high; least = t }
+
+refused-not-away : {n : Refusal} {r : Distance} {X : Type 0} → Refused n ≡ Away r → X
+refused-not-away e = let z : _≡_ {A = ℕ} 0 1 = cc in absurd (omega arith)
+
+away-same : {r s : Distance} → Away r ≡ Away s → r ≡ s
+away-same e = cc
+
+-- ---- one coordinate: moved back, and less than the point's
+moved-range : {c q : Float} → InField c → Bounded 92 q → Bounded 93 (add binary64 c q)
+unfolding add neg le fits
+moved-range C Q = sum-range C Q tt
+
+apart-range : {p q : Float} → InField p → Bounded 93 q → Bounded 94 (sub binary64 p q)
+unfolding sub le fits
+apart-range P Q = difference-range P Q tt
+
+length-range : {x y : Float} → Bounded 94 x → Bounded 94 y → Ranged zeroᶠ (power 95) (hypotOf x y)
+unfolding hypotOf absOf neg le fits
+length-range X Y = hypot-range zeroᶠ zeroᶠ refl refl X Y tt tt tt
+
+module _ {c p : Point} {a b : Float} (Cx : InField (c .x)) (Cy : InField (c .y)) (Px : InField (p .x)) (Py : InField (p .y)) (F : Found (lessCentre c p) (ellipseNearest a b (lessCentre c p))) where
+  near-answer : OvalAnswer c a b p (record { d = ellipseNear c a b p .d; v = ellipseNear c a b p .q })
+  unfolding ellipseNear
+  near-answer =
+      let x = moved-range Cx (F .x) in
+      let y = moved-range Cy (F .y) in
+      let d = length-range (apart-range Px x) (apart-range Py y) in
+      record { distance = d .held .finite; not-negative = d .low; nearest = record { x = x .held .finite; y = y .held .finite }; moved = refl; quadrant = F .quadrant }
+
+-- ---- the theorem
+pub oval-answer : {c : Point} {a b : Float} {p : Point} {r : Distance} → FitsPoint c → T (fits binary64 a) → T (fits binary64 b) → FitsPoint p → ellipseAnswer c a b p ≡ Away r → OvalAnswer c a b p r
+unfolding ellipseAnswer pieceNear
+oval-answer {c} {a} {b} {p} {r} C A B P e = go (pointInField p && pointInField c) (λ t. t) (ellipseFits c a b p) (λ t. t) e
+  where
+    away : T (pointInField p && pointInField c) → T (ellipseFits c a b p) → OvalAnswer c a b p (record { d = ellipseNear c a b p .d; v = ellipseNear c a b p .q })
+    away s t =
+        let ps = and-l (pointInField p) (pointInField c) s in
+        let cs = and-r (pointInField p) (pointInField c) s in
+        let Px = field-range (P .x) (and-l (inField (p .x)) (inField (p .y)) ps) in
+        let Py = field-range (P .y) (and-r (inField (p .x)) (inField (p .y)) ps) in
+        let Cx = field-range (C .x) (and-l (inField (c .x)) (inField (c .y)) cs) in
+        let Cy = field-range (C .y) (and-r (inField (c .x)) (inField (c .y)) cs) in
+        let axes = and-l (axisFits a && axisFits b) (offsetFits (c .x) (p .x) && offsetFits (c .y) (p .y)) t in
+        let offs = and-r (axisFits a && axisFits b) (offsetFits (c .x) (p .x) && offsetFits (c .y) (p .y)) t in
+        near-answer Cx Cy Px Py (ellipse-found
+        (record { fits = A; test = and-l (axisFits a) (axisFits b) axes })
+        (record { fits = B; test = and-r (axisFits a) (axisFits b) axes })
+        (offset-of Cx Px (and-l (offsetFits (c .x) (p .x)) (offsetFits (c .y) (p .y)) offs))
+        (offset-of Cy Py (and-r (offsetFits (c .x) (p .x)) (offsetFits (c .y) (p .y)) offs)))
+
+    go : (u : Bool) → (T u → T (pointInField p && pointInField c)) → (v : Bool) → (T v → T (ellipseFits c a b p))
+        → cond u (cond v (Away (record { d = ellipseNear c a b p .d; v = ellipseNear c a b p .q })) (Refused BadEllipse)) (Refused BadPoint) ≡ Away r → OvalAnswer c a b p r
+    go true f true g e = subst (OvalAnswer c a b p) (away-same e) (away (f tt) (g tt))
+    go true f false g e = refused-not-away e
+    go false f v g e = refused-not-away e

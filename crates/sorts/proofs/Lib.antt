@@ -1,0 +1,8 @@
+-- Laws of the sort.
+
+-- Merging two sorted lists sorts them together.
+pub mod Lists
+-- The order by key and then by number is total and transitive.
+pub mod Order
+-- What sorting keeps.
+pub mod SortLaws

@@ -1,0 +1,25 @@
+-- The order of numbers by a key, then by number (document 01, index.rs). Definitions only.
+use mathlib.Core.Bool.{Bool, true, false, not, _&&_, _||_, cond}
+use mathlib.Core.List.{List}
+use Prim.Native.Nat.{ℕ}
+use lib.Dec.{leb}
+use lib.ListN.{getD}
+use lib.Ieee.{Float, nan, lt, eq, isNan}
+use Rattle.number.specs.Signs.{signBit}
+
+-- x comes before y, as the Rust's `total_cmp` has it: it is less, or the two are equal and it alone has the sign, or y alone is NaN
+unfoldable pub totalLess : Float → Float → Bool
+unfolding lt eq signBit isNan
+totalLess x y = lt x y || ((eq x y && (signBit x && not (signBit y))) || (not (isNan x) && isNan y))
+
+-- the number a with the key x goes before the number b with the key y, or is b
+unfoldable pub goesBy : Float → Float → ℕ → ℕ → Bool
+unfolding totalLess
+goesBy x y a b = cond (totalLess x y) true (cond (totalLess y x) false (leb a b))
+
+abbrev pub goes : (ℕ → Float) → ℕ → ℕ → Bool
+goes key a b = goesBy (key a) (key b) a b
+
+-- the keys that a list holds, one for each number from 0 on
+abbrev pub keyIn : List Float → ℕ → Float
+keyIn K i = getD K i nan

@@ -1,0 +1,136 @@
+// A merge sort of item numbers by a key, with lent working space.
+ghost use mathlib.Core.Path.{_≡_};
+ghost use mathlib.Core.List.{_++_};
+ghost use Prim.Native.Nat.{_+_, _≤_};
+ghost use lib.ListN.{length, getD, set, take, drop};
+ghost use Rattle.sorts.specs.Sort.{sort, merge, fromFirst};
+ghost use Rattle.sorts.specs.Keys.{totalLess, goesBy, goes, keyIn};
+
+// The member at i, 0 past the end.
+pub fn at(s: &[u32], i: usize) -> u32
+    ensures { λ r. ⌜ r ≡ getD (now (s .entry)) i 0 ⌝ }
+{
+    if i < s.len() { s[i] } else { 0 }
+}
+
+// Stores x at i; nothing past the end.
+pub fn put(s: &mut [u32], i: usize, x: u32)
+    ensures { λ _. ⌜ now (s .exit) ≡ set (now (s .entry)) i x ⌝ }
+{
+    if i < s.len() {
+        s[i] = x;
+    }
+}
+
+// The key of item i, NaN past the end.
+fn key(keys: &[f64], i: u32) -> f64
+    ensures { λ r. ⌜ r ≡ keyIn (now (keys .entry)) i ⌝ }
+{
+    let k = i as usize;
+    if k < keys.len() { keys[k] } else { 0.0 / 0.0 }
+}
+
+// Whether x comes before y, as `total_cmp` has it.
+fn total_less(x: f64, y: f64) -> bool
+    ensures { λ r. ⌜ r ≡ totalLess x y ⌝ }
+{
+    let level = (x == y) & (number::signs::sign_bit(x) & !number::signs::sign_bit(y));
+    (x < y) | (level | (!number::signs::is_nan(x) & number::signs::is_nan(y)))
+}
+
+// Whether a goes before b, or is b, where neither key is below the other.
+fn tied(x: f64, y: f64, a: u32, b: u32) -> bool
+    ensures { λ r. ⌜ r ≡ goesBy x y a b ⌝ }
+{
+    if total_less(x, y) {
+        return true;
+    }
+    if total_less(y, x) {
+        return false;
+    }
+    a <= b
+}
+
+// Whether a goes before b, or is b: by key, then by number.
+fn before(keys: &[f64], a: u32, b: u32) -> bool
+    ensures { λ r. ⌜ r ≡ goes (keyIn (now (keys .entry))) a b ⌝ }
+{
+    let x = key(keys, a);
+    let y = key(keys, b);
+    if x < y {
+        return true;
+    }
+    if y < x {
+        return false;
+    }
+    tied(x, y, a, b)
+}
+
+// Whether the next member comes from a, at i, rather than from b, at j.
+fn from_first(keys: &[f64], a: &[u32], i: usize, b: &[u32], j: usize) -> bool
+    ensures { λ r. ⌜ r ≡ fromFirst (goes (keyIn (now (keys .entry)))) (now (a .entry)) i (now (b .entry)) j ⌝ }
+{
+    if i < a.len() {
+        if j < b.len() {
+            return before(keys, at(a, i), at(b, j));
+        }
+        return true;
+    }
+    false
+}
+
+// s becomes a and b, merged.
+fn merged(keys: &[f64], a: &[u32], b: &[u32], s: &mut [u32])
+    requires { ⌜ length (now s) ≡ length (now a) + length (now b) ⌝ }
+    ensures { λ _. ⌜ now (s .exit) ≡ merge (goes (keyIn (now (keys .entry)))) (now (a .entry)) (now (b .entry)) ⌝ }
+{
+    let mut i: usize = 0;
+    let mut j: usize = 0;
+    while i + j < s.len() {
+        if from_first(keys, a, i, b, j) {
+            put(s, i + j, at(a, i));
+            i += 1;
+        } else {
+            put(s, i + j, at(b, j));
+            j += 1;
+        }
+    }
+}
+
+// The first members of t become s.
+fn copied(s: &[u32], t: &mut [u32])
+    requires { ⌜ length (now s) ≤ length (now t) ⌝ }
+    ensures { λ _. ⌜ now (t .exit) ≡ now (s .entry) ++ drop (length (now (s .entry))) (now (t .entry)) ⌝ }
+{
+    let mut i: usize = 0;
+    while i < s.len() {
+        put(t, i, at(s, i));
+        i += 1;
+    }
+}
+
+// s becomes its first m and its rest, merged; t is working space, at least as long.
+fn joined(keys: &[f64], s: &mut [u32], m: usize, t: &mut [u32])
+    requires { ⌜ (m ≤ length (now s)) × (length (now s) ≤ length (now t)) ⌝ }
+    ensures { λ _. ⌜ now (s .exit) ≡ merge (goes (keyIn (now (keys .entry)))) (take m (now (s .entry))) (drop m (now (s .entry))) ⌝ }
+{
+    let n = s.len();
+    copied(s, t);
+    let w = &t[..];
+    merged(keys, &w[0..m], &w[m..n], s);
+}
+
+// s in order; t is working space, at least as long.
+pub fn sorted(keys: &[f64], s: &mut [u32], t: &mut [u32])
+    requires { ⌜ length (now s) ≤ length (now t) ⌝ }
+    ensures { λ _. ⌜ now (s .exit) ≡ sort (goes (keyIn (now (keys .entry)))) (now (s .entry)) ⌝ }
+{
+    let n = s.len();
+    if n < 2 {
+        return;
+    }
+    let m = n / 2;
+    sorted(keys, &mut s[..m], t);
+    sorted(keys, &mut s[m..], t);
+    joined(keys, s, m, t);
+}

@@ -1,0 +1,33 @@
+// The fill of a cell by an outline. The call gives its refusal's number, or 0, and the fill; a refused call
+// puts zero there. The lent buffer is working space of two halves, which hold zeros afterwards; a refused
+// call leaves it as it was, but for refusal 14.
+ghost use mathlib.Core.Path.{_≡_};
+ghost use lib.ListN.{length};
+ghost use Rattle.geometry.specs.Answers.{numberOf, measureOf};
+ghost use Rattle.fill.specs.Answers.{fillAnswer, fillBuffer};
+use crate::answers;
+use boundary::Bounds;
+use boundary::Point;
+
+#[no_mangle]
+pub extern "C" fn vk_outline_fill(
+    vertices: &[f64],
+    min_x: f64,
+    min_y: f64,
+    max_x: f64,
+    max_y: f64,
+    work: &mut [f64],
+    fill: &mut f64,
+) -> u32
+    ensures { λ r. ⌜ (r ≡ numberOf (fillAnswer (now (vertices .entry)) (record { min = record { x = «min_x»; y = «min_y» }; max = record { x = «max_x»; y = «max_y» } }) (length (now (work .entry)))))
+        × (now (fill .exit) ≡ measureOf (fillAnswer (now (vertices .entry)) (record { min = record { x = «min_x»; y = «min_y» }; max = record { x = «max_x»; y = «max_y» } }) (length (now (work .entry)))))
+        × (now (work .exit) ≡ fillBuffer (now (vertices .entry)) (record { min = record { x = «min_x»; y = «min_y» }; max = record { x = «max_x»; y = «max_y» } }) (now (work .entry))) ⌝ }
+{
+    let cell = Bounds {
+        min: Point { x: min_x, y: min_y },
+        max: Point { x: max_x, y: max_y },
+    };
+    let fill_answer = fill::fill(vertices, cell, work);
+    *fill = answers::measure_of(fill_answer);
+    answers::number_of(fill_answer)
+}

@@ -1,0 +1,67 @@
+// The box tree: building it, and listing what meets a cell. A call gives its refusal's number, or 0, and
+// an answer in the fields that it is lent; a refused call puts zeros there and leaves the lent lists as
+// they were.
+ghost use mathlib.Core.Path.{_≡_};
+ghost use lib.ListN.{length};
+ghost use Rattle.number.specs.Exact.{zeroᶠ};
+ghost use Rattle.geometry.specs.Answers.{numberOf, toldOf};
+ghost use Rattle.index.specs.Entries.{flat};
+ghost use Rattle.index.specs.Tree.{indexOf, itemsOf};
+ghost use Rattle.index.specs.Layout.{nodesOf, cornersOf, linksOf};
+ghost use Rattle.index.specs.Answers.{buildTested, builtFor, writtenFor, builtNumber, nodesIn, itemsIn};
+ghost use Rattle.meeting.specs.Meeting.{meetingOf};
+ghost use Rattle.meeting.specs.Answers.{cellOf, meetingTested, meetingAnswer, zeros};
+use crate::answers;
+use boundary::Bounds;
+use boundary::Point;
+
+#[no_mangle]
+pub extern "C" fn vk_index_build(
+    boxes: &[f64],
+    corners: &mut [f64],
+    links: &mut [u32],
+    items: &mut [u32],
+    node_count: &mut u32,
+    item_count: &mut u32,
+) -> u32
+    ensures { λ r. ⌜ (r ≡ builtNumber (builtFor (indexOf (now (boxes .entry))) (buildTested (now (boxes .entry)) (length (now (corners .entry))) (length (now (links .entry))) (length (now (items .entry))))))
+        × (now («node_count» .exit) ≡ nodesIn (builtFor (indexOf (now (boxes .entry))) (buildTested (now (boxes .entry)) (length (now (corners .entry))) (length (now (links .entry))) (length (now (items .entry))))))
+        × (now («item_count» .exit) ≡ itemsIn (builtFor (indexOf (now (boxes .entry))) (buildTested (now (boxes .entry)) (length (now (corners .entry))) (length (now (links .entry))) (length (now (items .entry))))))
+        × (now (corners .exit) ≡ writtenFor (flat cornersOf (nodesOf (indexOf (now (boxes .entry))))) (now (corners .entry)) (buildTested (now (boxes .entry)) (length (now (corners .entry))) (length (now (links .entry))) (length (now (items .entry)))))
+        × (now (links .exit) ≡ writtenFor (flat linksOf (nodesOf (indexOf (now (boxes .entry))))) (now (links .entry)) (buildTested (now (boxes .entry)) (length (now (corners .entry))) (length (now (links .entry))) (length (now (items .entry)))))
+        × (now (items .exit) ≡ writtenFor (itemsOf (indexOf (now (boxes .entry)))) (now (items .entry)) (buildTested (now (boxes .entry)) (length (now (corners .entry))) (length (now (links .entry))) (length (now (items .entry))))) ⌝ }
+{
+    let built = index::new(boxes, corners, links, items);
+    *node_count = index::refusals::nodes_in(built);
+    *item_count = index::refusals::items_in(built);
+    index::refusals::built_number(built)
+}
+
+#[no_mangle]
+pub extern "C" fn vk_index_meeting(
+    boxes: &[f64],
+    min_x: f64,
+    min_y: f64,
+    max_x: f64,
+    max_y: f64,
+    corners: &mut [f64],
+    links: &mut [u32],
+    items: &mut [u32],
+    list: &mut [u32],
+    count: &mut u32,
+) -> u32
+    ensures { λ r. ⌜ (r ≡ numberOf (meetingAnswer (now (boxes .entry)) (cellOf «min_x» «min_y» «max_x» «max_y») (length (now (corners .entry))) (length (now (links .entry))) (length (now (items .entry))) (length (now (list .entry)))))
+        × (now (count .exit) ≡ toldOf (meetingAnswer (now (boxes .entry)) (cellOf «min_x» «min_y» «max_x» «max_y») (length (now (corners .entry))) (length (now (links .entry))) (length (now (items .entry))) (length (now (list .entry)))))
+        × (now (corners .exit) ≡ writtenFor (zeros zeroᶠ 2044) (now (corners .entry)) (meetingTested (now (boxes .entry)) (cellOf «min_x» «min_y» «max_x» «max_y») (length (now (corners .entry))) (length (now (links .entry))) (length (now (items .entry))) (length (now (list .entry)))))
+        × (now (links .exit) ≡ writtenFor (zeros 0 1022) (now (links .entry)) (meetingTested (now (boxes .entry)) (cellOf «min_x» «min_y» «max_x» «max_y») (length (now (corners .entry))) (length (now (links .entry))) (length (now (items .entry))) (length (now (list .entry)))))
+        × (now (items .exit) ≡ writtenFor (zeros 0 1024) (now (items .entry)) (meetingTested (now (boxes .entry)) (cellOf «min_x» «min_y» «max_x» «max_y») (length (now (corners .entry))) (length (now (links .entry))) (length (now (items .entry))) (length (now (list .entry)))))
+        × (now (list .exit) ≡ writtenFor (meetingOf (cellOf «min_x» «min_y» «max_x» «max_y») (indexOf (now (boxes .entry)))) (now (list .entry)) (meetingTested (now (boxes .entry)) (cellOf «min_x» «min_y» «max_x» «max_y») (length (now (corners .entry))) (length (now (links .entry))) (length (now (items .entry))) (length (now (list .entry))))) ⌝ }
+{
+    let cell = Bounds {
+        min: Point { x: min_x, y: min_y },
+        max: Point { x: max_x, y: max_y },
+    };
+    let answer = meeting::meeting(boxes, cell, corners, links, items, list);
+    *count = answers::told_of(answer);
+    answers::number_of(answer)
+}
