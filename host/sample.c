@@ -1,38 +1,38 @@
 /*
- * A sample host: calls each operation of Viskunor and prints what it answers,
- * and draws how much of each cell of a grid an outline fills.
- *   sample [PICTURE]
- * PICTURE is where the drawing goes, an SVG (default: target/host/fill.svg).
+ * A sample host: reads outlines, points and ellipses from a text file, calls
+ * every operation of Viskunor on them, prints what it answers, and draws it.
+ *   sample FILE PICTURE
+ * FILE is like host/sample.txt; PICTURE is where the drawing goes, an SVG.
  */
 #include <stdio.h>
+#include <string.h>
+#include "scene.h"
 #include "viskunor.h"
 
-static void numbers(void)
+const double *outline_at(const scene *s, size_t k, size_t *len)
 {
-    printf("The square root of 2 is %.17g.\n", vk_sqrt(2.0));
-    printf("The square root of 0.0625 is %.17g.\n", vk_sqrt(0.0625));
-    printf("The square root of -1 is %s.\n", vk_sqrt(-1.0) == vk_sqrt(-1.0) ? "a number" : "no number (NaN)");
-    printf("The length of (3, 4) is %.17g.\n", vk_hypot(3.0, 4.0));
-    printf("The length of (1, 1) is %.17g.\n", vk_hypot(1.0, 1.0));
+    size_t i, start = 0;
+    for (i = 0; i < k; i++)
+        start += s->counts[i];
+    *len = 2 * (size_t)s->counts[k];
+    return s->vertices + 2 * start;
 }
 
-#define LENGTH(list) (sizeof(list) / sizeof(list)[0])
-
-/* What the numbers that a call returns say. */
-static const char *reason(uint32_t number)
+const char *reason(uint32_t number)
 {
     switch (number) {
     case 0: return "accepted";
     case 1: return "an odd count of numbers";
+    case 2: return "counts that do not add up";
     case 3: return "fewer than three vertices";
-    case 4: return "more than 4,096 vertices";
+    case 4: return "too many vertices, outlines or boxes";
     case 5: return "a number that is not finite";
     case 6: return "a number outside the field";
     case 7: return "two equal neighbours";
     case 8: return "no area";
     case 9: return "a negative area";
     case 10: return "a point outside the field";
-    case 11: return "a cell outside the field, or a minimum above its maximum";
+    case 11: return "a box or cell outside the field, or a minimum above its maximum";
     case 12: return "a bad semi-axis, or a point too close to an axis";
     case 13: return "a lent list that is too short";
     case 14: return "a clipped list that is too long for a half of the buffer";
@@ -40,207 +40,214 @@ static const char *reason(uint32_t number)
     }
 }
 
-static void measures(const char *name, const double *vertices, size_t len)
+static void refused(const char *what, uint32_t number)
 {
-    double area, perimeter, min_x, min_y, max_x, max_y;
-    uint32_t number = vk_outline_area(vertices, len, &area);
-    if (number != 0) {
-        printf("%s is turned away, number %u: %s.\n", name, (unsigned)number, reason(number));
+    printf("%s is turned away, number %u: %s.\n", what, (unsigned)number, reason(number));
+}
+
+/* Makes an outline of what was read and adds it to the scene, if it can be made and there is room. */
+static void add_outline(scene *s, const double *list, size_t len, unsigned line)
+{
+    uint32_t count, number;
+    if (s->outlines == MOST_OUTLINES) {
+        printf("There is no room for the outline before line %u.\n", line);
         return;
     }
-    printf("%s has the area %.17g", name, area);
-    if (vk_outline_perimeter(vertices, len, &perimeter) == 0)
-        printf(", the perimeter %.17g", perimeter);
-    if (vk_outline_bounds(vertices, len, &min_x, &min_y, &max_x, &max_y) == 0)
+    number = vk_outline_make(list, len, s->vertices + s->numbers, MOST_NUMBERS - s->numbers, &count);
+    if (number != 0) {
+        printf("Before line %u: ", line);
+        refused("an outline", number);
+        return;
+    }
+    printf("Outline %u is made: %u of %u vertices.\n", (unsigned)s->outlines, (unsigned)count, (unsigned)(len / 2));
+    s->counts[s->outlines++] = count;
+    s->numbers += 2 * (size_t)count;
+}
+
+static int read_scene(FILE *in, scene *s)
+{
+    double list[MOST_NUMBERS], x, y, a, b;
+    char text[128];
+    size_t len = 0;
+    int open = 0;
+    unsigned line = 0;
+    while (fgets(text, sizeof text, in) != NULL) {
+        line++;
+        if (strncmp(text, "outline", 7) == 0) {
+            if (open)
+                add_outline(s, list, len, line);
+            open = 1;
+            len = 0;
+        } else if (sscanf(text, "point %lf %lf", &x, &y) == 2 && s->asked < MOST_POINTS) {
+            s->points[s->asked].x = x;
+            s->points[s->asked++].y = y;
+        } else if (sscanf(text, "ellipse %lf %lf %lf %lf", &x, &y, &a, &b) == 4 && s->rounds < MOST_ELLIPSES) {
+            ellipse *e = &s->ellipses[s->rounds++];
+            e->x = x;
+            e->y = y;
+            e->semi_x = a;
+            e->semi_y = b;
+        } else if (open && sscanf(text, "%lf %lf", &x, &y) == 2 && len + 2 <= MOST_NUMBERS) {
+            list[len++] = x;
+            list[len++] = y;
+        } else if (text[0] != '#' && text[0] != '\n') {
+            printf("Line %u cannot be read.\n", line);
+            return 1;
+        }
+    }
+    if (open)
+        add_outline(s, list, len, line + 1);
+    return 0;
+}
+
+static void measures(const scene *s, size_t k)
+{
+    double area, perimeter, min_x, min_y, max_x, max_y;
+    size_t len;
+    const double *v = outline_at(s, k, &len);
+    uint32_t number = vk_outline_area(v, len, &area);
+    if (number != 0) {
+        refused("an outline", number);
+        return;
+    }
+    printf("Outline %u has the area %.12g", (unsigned)k, area);
+    if (vk_outline_perimeter(v, len, &perimeter) == 0)
+        printf(", the perimeter %.12g", perimeter);
+    if (vk_outline_bounds(v, len, &min_x, &min_y, &max_x, &max_y) == 0)
         printf(" and the box from (%g, %g) to (%g, %g)", min_x, min_y, max_x, max_y);
     printf(".\n");
 }
 
-static void point(const char *name, const double *vertices, size_t len, double x, double y)
+/* Where a point lies of an outline, and how far from it. */
+static void near_outline(const scene *s, size_t k, place p)
 {
     static const char *const places[] = { "outside", "on the boundary of", "inside" };
     uint32_t inside, location;
-    uint32_t number = vk_outline_contains(vertices, len, x, y, &inside);
-    if (number != 0) {
-        printf("(%g, %g) is turned away, number %u: %s.\n", x, y, (unsigned)number, reason(number));
-        return;
-    }
-    if (vk_outline_locate(vertices, len, x, y, &location) == 0)
-        printf("(%g, %g) is %s %s, which %s it.\n", x, y, places[location], name,
+    double distance, x, y;
+    size_t len;
+    const double *v = outline_at(s, k, &len);
+    if (vk_outline_locate(v, len, p.x, p.y, &location) == 0 && vk_outline_contains(v, len, p.x, p.y, &inside) == 0)
+        printf("  It is %s outline %u, which %s it", places[location], (unsigned)k,
                inside ? "contains" : "does not contain");
+    if (vk_outline_distance(v, len, p.x, p.y, &distance, &x, &y) == 0)
+        printf("; its distance from it is %.12g, with the normal (%.6g, %.6g).\n", distance, x, y);
 }
 
-static void distance(const char *name, const double *vertices, size_t len, double x, double y)
+static void at_point(const scene *s, place p)
 {
-    double distance, normal_x, normal_y;
-    uint32_t number = vk_outline_distance(vertices, len, x, y, &distance, &normal_x, &normal_y);
+    static index_space w;
+    uint32_t any, found, outline, number;
+    double distance;
+    number = vk_set_any_at(s->vertices, s->numbers, s->counts, s->outlines, p.x, p.y, w.corners, 4 * 511,
+                           w.links, 2 * 511, w.items, 1024, &any);
+    printf("(%g, %g): ", p.x, p.y);
     if (number != 0) {
-        printf("(%g, %g) is turned away, number %u: %s.\n", x, y, (unsigned)number, reason(number));
+        refused("the point", number);
         return;
     }
-    printf("(%g, %g) has the distance %.17g from %s, with the normal (%g, %g).\n", x, y, distance, name,
-           normal_x, normal_y);
-}
-
-static void make(const char *name, const double *vertices, size_t len)
-{
-    double made[16];
-    uint32_t count, i;
-    uint32_t number = vk_outline_make(vertices, len, made, LENGTH(made), &count);
-    if (number != 0) {
-        printf("%s cannot be made, number %u: %s.\n", name, (unsigned)number, reason(number));
+    number = vk_set_nearest(s->vertices, s->numbers, s->counts, s->outlines, p.x, p.y, w.corners, 4 * 511,
+                            w.links, 2 * 511, w.items, 1024, &found, &outline, &distance);
+    printf("%s outline contains it; ", any ? "an" : "no");
+    if (number != 0 || !found) {
+        printf("there is none.\n");
         return;
     }
-    printf("%s is made into", name);
-    for (i = 0; i < count; i++)
-        printf(" (%g, %g)", made[2 * i], made[2 * i + 1]);
-    printf(".\n");
+    printf("the nearest is outline %u, %.12g away.\n", (unsigned)outline, distance);
+    near_outline(s, outline, p);
 }
 
-/* Room for pieces in each half of a fill's buffer. */
-#define PIECES 32
-
-static void fill(const char *name, const double *vertices, size_t len, const double *cell, size_t pieces)
+/* The tree over the outlines' boxes, and which of them meet a cell. */
+static void tree(const scene *s)
 {
-    double work[8 * PIECES], fill;
-    uint32_t number = vk_outline_fill(vertices, len, cell[0], cell[1], cell[2], cell[3], work, 8 * pieces, &fill);
-    if (number != 0)
-        printf("The fill of a cell by %s is turned away, number %u: %s.\n", name, (unsigned)number, reason(number));
-    else
-        printf("The area that %s fills of the cell from (%g, %g) to (%g, %g) is %.17g.\n", name, cell[0], cell[1],
-               cell[2], cell[3], fill);
+    static index_space w;
+    static vk_node nodes[511];
+    double boxes[4 * MOST_OUTLINES];
+    uint32_t list[1024], node_count, item_count, count, i, number;
+    size_t k, len;
+    for (k = 0; k < s->outlines; k++) {
+        const double *v = outline_at(s, k, &len);
+        double *b = boxes + 4 * k;
+        vk_outline_bounds(v, len, b, b + 1, b + 2, b + 3);
+    }
+    number = vk_index_build(boxes, 4 * s->outlines, w.corners, 4 * 511, w.links, 2 * 511, w.items, 1024, &node_count,
+                            &item_count);
+    if (number != 0) {
+        refused("the list of boxes", number);
+        return;
+    }
+    printf("The tree over the outlines' boxes: nodes %u, items %u.\n", (unsigned)node_count, (unsigned)item_count);
+    if (vk_index_nodes(boxes, 4 * s->outlines, nodes, 511, w.items, 1024, &node_count, &item_count) == 0)
+        for (i = 0; i < node_count; i++)
+            printf("  Node %u from (%g, %g) to (%g, %g): first %u, count %u.\n", (unsigned)i, nodes[i].min_x,
+                   nodes[i].min_y, nodes[i].max_x, nodes[i].max_y, (unsigned)nodes[i].first, (unsigned)nodes[i].count);
+    if (vk_index_meeting(boxes, 4 * s->outlines, 10, 0, 15, 3, w.corners, 4 * 511, w.links, 2 * 511, w.items, 1024,
+                         list, 1024, &count) == 0) {
+        printf("The leaves that meet the cell from (10, 0) to (15, 3) list");
+        for (i = 0; i < count; i++)
+            printf(" %u", (unsigned)list[i]);
+        printf(".\n");
+    }
 }
 
-static void outlines(void)
+static void ellipses(const scene *s)
 {
-    static const double square[] = { 0, 0, 4, 0, 4, 4, 0, 4 };
-    static const double turned[] = { 0, 0, 0, 4, 4, 4, 4, 0 };
-    static const double closed[] = { 0, 0, 4, 0, 4, 4, 0, 4, 0, 0 };
-    static const double flat[] = { 0, 0, 1, 0, 2, 0 };
-    static const double crossed[] = { 0, 0, 2, 2, 2, 0, 0, 2 };
-    static const double far_off[] = { 0, 0, 1048577, 0, 0, 4 };
-    static const double arrow[] = { 0, 0, 6, 3, 0, 6, 2, 3 };
-    static const double across[] = { 1, 1, 3, 6 };
-    static const double outside[] = { 5, 5, 6, 6 };
-    static const double notch[] = { -1, 0, 1, 6 };
-    static const double exchanged[] = { 3, 1, 1, 6 };
-
-    measures("The square", square, LENGTH(square));
-    measures("The arrow", arrow, LENGTH(arrow));
-    measures("The square gone round the other way", turned, LENGTH(turned));
-    measures("A flat triangle", flat, LENGTH(flat));
-    measures("A bow tie", crossed, LENGTH(crossed));
-    measures("A triangle that reaches too far", far_off, LENGTH(far_off));
-    measures("Nothing", NULL, 0);
-    point("the square", square, LENGTH(square), 2, 2);
-    point("the square", square, LENGTH(square), 4, 2);
-    point("the square", square, LENGTH(square), 0, 2);
-    point("the square", square, LENGTH(square), 2, 0);
-    point("the square", square, LENGTH(square), 2, 4);
-    point("the square", square, LENGTH(square), 6, 2);
-    point("the square", square, LENGTH(square), 2097152, 2);
-    point("the arrow", arrow, LENGTH(arrow), 1, 3);
-    point("the arrow", arrow, LENGTH(arrow), 4, 3);
-    distance("the square", square, LENGTH(square), 6, 2);
-    distance("the square", square, LENGTH(square), 1, 2);
-    distance("the square", square, LENGTH(square), 7, 8);
-    distance("the square", square, LENGTH(square), 4, 1);
-    distance("the arrow", arrow, LENGTH(arrow), 1, 3);
-    distance("the arrow", arrow, LENGTH(arrow), 2097152, 2);
-    fill("the square", square, LENGTH(square), across, 4);
-    fill("the square", square, LENGTH(square), outside, 4);
-    fill("the square", square, LENGTH(square), exchanged, 4);
-    fill("the square", square, LENGTH(square), across, 3);
-    fill("the arrow", arrow, LENGTH(arrow), notch, 4);
-    fill("the arrow", arrow, LENGTH(arrow), notch, PIECES);
-    make("The square gone round the other way", turned, LENGTH(turned));
-    make("The square with its first vertex again at the end", closed, LENGTH(closed));
-    make("A list of five numbers", square, 5);
-}
-
-static void ellipse(double semi_x, double semi_y, double x, double y)
-{
-    double nearest_x, nearest_y, distance;
-    uint32_t number = vk_ellipse_nearest(0, 0, semi_x, semi_y, x, y, &nearest_x, &nearest_y, &distance);
-    if (number != 0)
-        printf("(%g, %g) is turned away, number %u: %s.\n", x, y, (unsigned)number, reason(number));
-    else
-        printf("The ellipse with the semi-axes %g and %g is nearest to (%g, %g) at (%g, %g), %g away.\n",
-               semi_x, semi_y, x, y, nearest_x, nearest_y, distance);
-}
-
-static void ellipses(void)
-{
-    ellipse(2, 1, 3, 0);
-    ellipse(2, 1, 0, -0.0);
-    ellipse(1, 2, 0.5, -0.25);
-    ellipse(2, 1, 0.5, 1e-18);
-}
-
-#define COLUMNS 12
-#define ROWS 8
-#define PIXELS 60
-
-/* One cell: darker where more of it is filled, with its filled share in per cent. */
-static void draw_cell(FILE *out, int column, int row, double share)
-{
-    int x = PIXELS * column, y = PIXELS * (ROWS - 1 - row), light = (int)(255 - 155 * share);
-    fprintf(out, "<rect x='%d' y='%d' width='%d' height='%d' fill='rgb(%d,%d,255)' stroke='silver'/>\n",
-            x, y, PIXELS, PIXELS, light, light);
-    if (share >= 0.0005)
-        fprintf(out, "<text x='%d' y='%d' font-size='14' text-anchor='middle'>%.1f</text>\n",
-                x + PIXELS / 2, y + PIXELS / 2 + 5, 100 * share);
-}
-
-/* Every cell of the grid, and the outline over them; the number of the first refusal, or 0. */
-static uint32_t draw(FILE *out, const double *vertices, size_t len, double *filled)
-{
-    double work[8 * PIECES], fill;
-    size_t i;
-    int column, row;
-    fprintf(out, "<svg xmlns='http://www.w3.org/2000/svg' width='%d' height='%d' font-family='sans-serif'>\n",
-            PIXELS * COLUMNS, PIXELS * ROWS);
-    *filled = 0;
-    for (row = 0; row < ROWS; row++)
-        for (column = 0; column < COLUMNS; column++) {
-            uint32_t number = vk_outline_fill(vertices, len, column, row, column + 1, row + 1,
-                                              work, LENGTH(work), &fill);
+    size_t i, k;
+    for (k = 0; k < s->rounds; k++)
+        for (i = 0; i < s->asked; i++) {
+            const ellipse *e = &s->ellipses[k];
+            place p = s->points[i];
+            double x, y, distance;
+            uint32_t number = vk_ellipse_nearest(e->x, e->y, e->semi_x, e->semi_y, p.x, p.y, &x, &y, &distance);
             if (number != 0)
-                return number;
-            draw_cell(out, column, row, fill);
-            *filled += fill;
+                refused("An ellipse with a point", number);
+            else
+                printf("Of ellipse %u the point nearest to (%g, %g) is (%.6g, %.6g), %.6g away.\n", (unsigned)k, p.x, p.y,
+                       x, y, distance);
         }
-    fprintf(out, "<polygon fill='none' stroke='black' stroke-width='2' points='");
-    for (i = 0; i + 1 < len; i += 2)
-        fprintf(out, " %g,%g", PIXELS * vertices[i], PIXELS * (ROWS - vertices[i + 1]));
-    fprintf(out, "'/>\n</svg>\n");
-    return 0;
 }
 
-static int picture(const char *path)
+static int picture(const char *path, const scene *s)
 {
-    static const double bird[] = { 1, 1, 6, 0.5, 11, 2, 8, 3.5, 11.5, 6.5, 6, 5, 2.5, 7.5, 3.5, 4 };
-    double filled, area;
-    uint32_t number;
     FILE *out = fopen(path, "w");
+    int bad;
     if (out == NULL) {
         printf("%s cannot be written.\n", path);
         return 1;
     }
-    number = draw(out, bird, LENGTH(bird), &filled);
-    if (fclose(out) != 0 || number != 0 || vk_outline_area(bird, LENGTH(bird), &area) != 0) {
+    bad = draw(out, s);
+    if (fclose(out) != 0 || bad) {
         printf("%s is not complete.\n", path);
         return 1;
     }
-    printf("%s shows %d cells of area 1 and an outline, which fills %.12g of them; its area is %.12g.\n", path,
-           ROWS * COLUMNS, filled, area);
+    printf("%s shows the outlines, how much of each cell they fill, and each point's nearest outline.\n", path);
     return 0;
 }
 
 int main(int argc, char **argv)
 {
-    numbers();
-    outlines();
-    ellipses();
-    return picture(argc > 1 ? argv[1] : "target/host/fill.svg");
+    static scene s;
+    FILE *in;
+    size_t i;
+    int bad;
+    if (argc != 3) {
+        printf("usage: sample FILE PICTURE\n");
+        return 2;
+    }
+    in = fopen(argv[1], "r");
+    if (in == NULL) {
+        printf("%s cannot be read.\n", argv[1]);
+        return 1;
+    }
+    bad = read_scene(in, &s);
+    fclose(in);
+    if (bad)
+        return 1;
+    printf("The square root of 2 is %.17g, and the length of (3, 4) is %.17g.\n", vk_sqrt(2.0), vk_hypot(3.0, 4.0));
+    for (i = 0; i < s.outlines; i++)
+        measures(&s, i);
+    tree(&s);
+    for (i = 0; i < s.asked; i++)
+        at_point(&s, s.points[i]);
+    ellipses(&s);
+    return picture(argv[2], &s);
 }

@@ -7,17 +7,13 @@
 #include <stdio.h>
 #include <stdlib.h>
 #include <string.h>
-#include <stdint.h>
-#include <stddef.h>
+#include "expect.h"
 #include "viskunor.h"
 
-static unsigned long checks;
-static unsigned long failures;
+unsigned long checks;
+unsigned long failures;
 
-/* A bit pattern as its upper and lower 32 bits: C89 has no 64-bit constants. */
-typedef struct { uint32_t hi, lo; } bits;
-
-static double from_bits(bits b)
+double from_bits(bits b)
 {
     uint64_t n = ((uint64_t)b.hi << 32) | b.lo;
     double x;
@@ -25,7 +21,7 @@ static double from_bits(bits b)
     return x;
 }
 
-static bits to_bits(double x)
+bits to_bits(double x)
 {
     uint64_t n;
     bits b;
@@ -41,7 +37,7 @@ static int is_nan(bits b)
     return top > 0x7ff00000u || (top == 0x7ff00000u && b.lo != 0);
 }
 
-static void expect(const char *call, int line, double got, bits want)
+void expect(const char *call, int line, double got, bits want)
 {
     bits g = to_bits(got);
     checks++;
@@ -51,8 +47,6 @@ static void expect(const char *call, int line, double got, bits want)
     printf("%s, case %d: got %08lx%08lx, expected %08lx%08lx\n", call, line,
            (unsigned long)g.hi, (unsigned long)g.lo, (unsigned long)want.hi, (unsigned long)want.lo);
 }
-
-#define COUNT(list) ((int)(sizeof(list) / sizeof(list)[0]))
 
 static const struct { bits x, root; } sqrt_cases[] = {
     { { 0x00000000, 0x00000000 }, { 0x00000000, 0x00000000 } }, /* +0 */
@@ -124,17 +118,16 @@ static void numbers(void)
 #define GUARD 4
 #define MOST 8200
 
-/* What stands in answer fields and lent places before a call. */
-static const bits stale = { 0xdeadbeef, 0xdeadbeef };
-static const uint32_t stale_word = 0xdeadbeef;
+const bits stale = { 0xdeadbeef, 0xdeadbeef };
+const uint32_t stale_word = 0xdeadbeef;
 
-static const bits infinity = { 0x7ff00000, 0 };
-static const bits not_a_number = { 0x7ff80000, 0 };
-static const bits past_field_end = { 0x41300000, 0x00000001 }; /* the next double */
+const bits infinity = { 0x7ff00000, 0 };
+const bits not_a_number = { 0x7ff80000, 0 };
+const bits past_field_end = { 0x41300000, 0x00000001 };
 
 static double lent_space[MOST + 2 * GUARD], made_space[MOST + 2 * GUARD];
 
-static void expect_word(const char *call, int line, uint32_t got, uint32_t want)
+void expect_word(const char *call, int line, uint32_t got, uint32_t want)
 {
     checks++;
     if (got == want)
@@ -143,7 +136,7 @@ static void expect_word(const char *call, int line, uint32_t got, uint32_t want)
     printf("%s, case %d: got %lu, expected %lu\n", call, line, (unsigned long)got, (unsigned long)want);
 }
 
-static int same_bits(double a, double b)
+int same_bits(double a, double b)
 {
     return memcmp(&a, &b, sizeof a) == 0;
 }
@@ -314,8 +307,6 @@ static const double rake[] = { 0, 0, 0, 6, -3, 6, -1, 5, -3, 4, -1, 3, -3, 2, -1
 static const double loops[] = { 3, -3, 3, 3, -1, -1, -1, 1 };
 static const double tenths[] = { 0, 0.1, 0.1, 0.2, 0.3, 0, 0.1, 0.2 };
 static const double tenths_made[] = { 0.1, 0.2, 0.3, 0, 0.1, 0.2, 0, 0.1 };
-
-#define LIST(list) list, (size_t)COUNT(list)
 
 static void outline_measures(void)
 {
@@ -708,6 +699,8 @@ int main(void)
     outline_making();
     outline_sizes();
     outline_memory();
+    trees();
+    sets();
     printf("%lu answers compared, %lu wrong\n", checks, failures);
     return failures != 0;
 }

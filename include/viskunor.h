@@ -260,6 +260,25 @@ uint32_t vk_index_build(const double *boxes, size_t boxes_len,
                         uint32_t *items, size_t items_len, uint32_t *node_count, uint32_t *item_count);
 
 /*
+ * A node: its four corner numbers, and its links.
+ */
+typedef struct vk_node {
+    double min_x, min_y, max_x, max_y;
+    uint32_t first, count;
+} vk_node;
+
+/*
+ * The same tree as node records, one for each node in the order of their
+ * numbers. Places past the nodes and items used stay as they were.
+ *   refusals: 4, 11, 13. 13: nodes_len, which counts records, below 511, or
+ *     items_len below 1,024.
+ *   node_count, item_count: the number of nodes, at most 511, and of boxes.
+ */
+uint32_t vk_index_nodes(const double *boxes, size_t boxes_len,
+                        vk_node *nodes, size_t nodes_len, uint32_t *items, size_t items_len,
+                        uint32_t *node_count, uint32_t *item_count);
+
+/*
  * Lists every item of each leaf whose box shares a point with the cell, the
  * first child's leaves first: every box that shares a point with the cell, and
  * others of the same leaves. The tree is built in the lent index buffer, whose
@@ -274,6 +293,62 @@ uint32_t vk_index_meeting(const double *boxes, size_t boxes_len,
                           double *corners, size_t corners_len, uint32_t *links, size_t links_len,
                           uint32_t *items, size_t items_len,
                           uint32_t *list, size_t list_len, uint32_t *count);
+
+/*
+ * Sets.
+ *
+ * A set is 0 to 1,024 outlines, numbered from 0, of 65,536 vertices together:
+ * vertices holds the outlines' vertices one after the other, and counts each
+ * outline's vertex count. counts_len counts outlines. The tree is the one over
+ * the outlines' boxes, built in the lent index buffer, whose 511 nodes and 1,024
+ * items hold only zeros after an accepted call; past them it stays as it was.
+ *
+ * Each call returns 0 where it is accepted, and the number of its refusal
+ * otherwise, tested in this order, each test over all outlines before the next:
+ *
+ *    1  vertices_len is odd
+ *    2  the counts do not add up to the list's vertices
+ *    3  an outline has fewer than three vertices
+ *    4  an outline has more than 4,096 vertices, or the set more than 1,024
+ *       outlines or 65,536 vertices
+ *    5  a vertex number is not finite
+ *    6  a vertex number is outside the field
+ *    7  two neighbouring vertices of an outline, last and first included, are
+ *       equal
+ *    8  an outline's area works out to zero
+ *    9  an outline's area is negative
+ *   10  a number of the point is outside the field or not finite
+ *   13  the index buffer is shorter than it must be
+ *
+ * A refused call writes zero to every answer field and leaves every list as it
+ * was. No two of the things that a call is lent may overlap.
+ */
+
+/*
+ * Whether an outline that vk_index_meeting lists for the cell x, y, x, y, over
+ * the outlines' boxes, contains the point (x, y) as vk_outline_contains says.
+ *   refusals: 1 to 10, 13.
+ *   any: 1 where one does, and 0 where none does.
+ */
+uint32_t vk_set_any_at(const double *vertices, size_t vertices_len,
+                       const uint32_t *counts, size_t counts_len, double x, double y,
+                       double *corners, size_t corners_len, uint32_t *links, size_t links_len,
+                       uint32_t *items, size_t items_len, uint32_t *any);
+
+/*
+ * The outline of the set that is nearest to the point (x, y): the least magnitude
+ * of the outlines' distances, as vk_outline_distance gives them, and of the
+ * outlines that have it the lowest number.
+ *   refusals: 1 to 10, 13.
+ *   found: 1 where there is one, and 0 over an empty set only.
+ *   outline: its number.
+ *   distance: the magnitude.
+ */
+uint32_t vk_set_nearest(const double *vertices, size_t vertices_len,
+                        const uint32_t *counts, size_t counts_len, double x, double y,
+                        double *corners, size_t corners_len, uint32_t *links, size_t links_len,
+                        uint32_t *items, size_t items_len,
+                        uint32_t *found, uint32_t *outline, double *distance);
 
 #ifdef __cplusplus
 }

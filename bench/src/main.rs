@@ -3,11 +3,13 @@
 //!
 //! Both sides are called, not inlined, but in the rows that say so. A chain makes each call wait for
 //! the answer before it (latency); a stream does not (throughput). Each figure is the best of several
-//! repetitions.
+//! repetitions. Arguments name the groups to time (numbers, outlines, ellipses, fills, indexes, sets);
+//! none means all.
 #![allow(dead_code)] // the oracle's modules hold more than is timed yet
 
 mod ellipses;
 mod fills;
+mod indexes;
 #[path = "../../oracle/src/library.rs"]
 mod library;
 mod numbers;
@@ -16,16 +18,27 @@ mod original;
 mod outlines;
 #[path = "../../oracle/src/random.rs"]
 mod random;
+mod sets;
 #[path = "../../oracle/src/standins.rs"]
 mod standins;
 mod table;
 
 fn main() {
     original::self_check();
+    let asked: Vec<String> = std::env::args().skip(1).collect();
+    let groups: [(&str, fn(&mut table::Table)); 6] = [
+        ("numbers", numbers::rows),
+        ("outlines", outlines::rows),
+        ("ellipses", ellipses::rows),
+        ("fills", fills::rows),
+        ("indexes", indexes::rows),
+        ("sets", sets::rows),
+    ];
     let mut table = table::Table::new();
-    numbers::rows(&mut table);
-    outlines::rows(&mut table);
-    ellipses::rows(&mut table);
-    fills::rows(&mut table);
+    for (name, rows) in groups {
+        if asked.is_empty() || asked.iter().any(|a| a == name) {
+            rows(&mut table);
+        }
+    }
     table.print();
 }

@@ -1,6 +1,20 @@
 //! The library's exports, as include/viskunor.h declares them, and calls of them with slices.
 
+/// A node record: its box's corners and its links.
+#[repr(C)]
+#[derive(Clone, Copy, Debug)]
+pub struct Node {
+    pub min_x: f64,
+    pub min_y: f64,
+    pub max_x: f64,
+    pub max_y: f64,
+    pub first: u32,
+    pub count: u32,
+}
+
 mod exports {
+    use super::Node;
+
     unsafe extern "C" {
         pub safe fn vk_sqrt(x: f64) -> f64;
         pub safe fn vk_hypot(a: f64, b: f64) -> f64;
@@ -72,13 +86,86 @@ mod exports {
             nearest_y: *mut f64,
             distance: *mut f64,
         ) -> u32;
+
+        pub fn vk_index_build(
+            boxes: *const f64,
+            boxes_len: usize,
+            corners: *mut f64,
+            corners_len: usize,
+            links: *mut u32,
+            links_len: usize,
+            items: *mut u32,
+            items_len: usize,
+            node_count: *mut u32,
+            item_count: *mut u32,
+        ) -> u32;
+        pub fn vk_index_nodes(
+            boxes: *const f64,
+            boxes_len: usize,
+            nodes: *mut Node,
+            nodes_len: usize,
+            items: *mut u32,
+            items_len: usize,
+            node_count: *mut u32,
+            item_count: *mut u32,
+        ) -> u32;
+        pub fn vk_index_meeting(
+            boxes: *const f64,
+            boxes_len: usize,
+            min_x: f64,
+            min_y: f64,
+            max_x: f64,
+            max_y: f64,
+            corners: *mut f64,
+            corners_len: usize,
+            links: *mut u32,
+            links_len: usize,
+            items: *mut u32,
+            items_len: usize,
+            list: *mut u32,
+            list_len: usize,
+            count: *mut u32,
+        ) -> u32;
+
+        pub fn vk_set_any_at(
+            vertices: *const f64,
+            vertices_len: usize,
+            counts: *const u32,
+            counts_len: usize,
+            x: f64,
+            y: f64,
+            corners: *mut f64,
+            corners_len: usize,
+            links: *mut u32,
+            links_len: usize,
+            items: *mut u32,
+            items_len: usize,
+            any: *mut u32,
+        ) -> u32;
+        pub fn vk_set_nearest(
+            vertices: *const f64,
+            vertices_len: usize,
+            counts: *const u32,
+            counts_len: usize,
+            x: f64,
+            y: f64,
+            corners: *mut f64,
+            corners_len: usize,
+            links: *mut u32,
+            links_len: usize,
+            items: *mut u32,
+            items_len: usize,
+            found: *mut u32,
+            outline: *mut u32,
+            distance: *mut f64,
+        ) -> u32;
     }
 }
 
 pub use exports::{vk_hypot, vk_sqrt};
 
 /// A lent list's address: NULL for an empty list, as a C host would lend it.
-fn address(list: &[f64]) -> *const f64 {
+fn address<T>(list: &[T]) -> *const T {
     if list.is_empty() {
         std::ptr::null()
     } else {
@@ -86,7 +173,7 @@ fn address(list: &[f64]) -> *const f64 {
     }
 }
 
-fn address_mut(list: &mut [f64]) -> *mut f64 {
+fn address_mut<T>(list: &mut [T]) -> *mut T {
     if list.is_empty() {
         std::ptr::null_mut()
     } else {
@@ -190,4 +277,140 @@ pub fn fill(
 pub fn ellipse_nearest([cx, cy, a, b, x, y]: [f64; 6], answer: &mut [f64; 3]) -> u32 {
     let [nearest_x, nearest_y, distance] = answer;
     unsafe { exports::vk_ellipse_nearest(cx, cy, a, b, x, y, nearest_x, nearest_y, distance) }
+}
+
+/// An index buffer: corners and links of nodes, and items.
+pub struct Lent<'a> {
+    pub corners: &'a mut [f64],
+    pub links: &'a mut [u32],
+    pub items: &'a mut [u32],
+}
+
+/// The last two fields are the numbers of nodes and items.
+#[inline]
+pub fn index_build(boxes: &[f64], lent: Lent, fields: &mut [u32; 3]) -> u32 {
+    let [_, nodes, items] = fields;
+    unsafe {
+        exports::vk_index_build(
+            address(boxes),
+            boxes.len(),
+            address_mut(lent.corners),
+            lent.corners.len(),
+            address_mut(lent.links),
+            lent.links.len(),
+            address_mut(lent.items),
+            lent.items.len(),
+            nodes,
+            items,
+        )
+    }
+}
+
+/// The same as records; the last two fields are the numbers of nodes and items.
+#[inline]
+pub fn index_nodes(
+    boxes: &[f64],
+    nodes: &mut [Node],
+    items: &mut [u32],
+    fields: &mut [u32; 3],
+) -> u32 {
+    let [_, node_count, item_count] = fields;
+    unsafe {
+        exports::vk_index_nodes(
+            address(boxes),
+            boxes.len(),
+            address_mut(nodes),
+            nodes.len(),
+            address_mut(items),
+            items.len(),
+            node_count,
+            item_count,
+        )
+    }
+}
+
+/// The list gets the items found, and `count` their number.
+#[inline]
+pub fn index_meeting(
+    boxes: &[f64],
+    [min_x, min_y, max_x, max_y]: [f64; 4],
+    lent: Lent,
+    list: &mut [u32],
+    count: &mut u32,
+) -> u32 {
+    unsafe {
+        exports::vk_index_meeting(
+            address(boxes),
+            boxes.len(),
+            min_x,
+            min_y,
+            max_x,
+            max_y,
+            address_mut(lent.corners),
+            lent.corners.len(),
+            address_mut(lent.links),
+            lent.links.len(),
+            address_mut(lent.items),
+            lent.items.len(),
+            address_mut(list),
+            list.len(),
+            count,
+        )
+    }
+}
+
+/// The set is its vertices and counts.
+#[inline]
+pub fn set_any_at(
+    (vertices, counts): (&[f64], &[u32]),
+    [x, y]: [f64; 2],
+    lent: Lent,
+    any: &mut u32,
+) -> u32 {
+    unsafe {
+        exports::vk_set_any_at(
+            address(vertices),
+            vertices.len(),
+            address(counts),
+            counts.len(),
+            x,
+            y,
+            address_mut(lent.corners),
+            lent.corners.len(),
+            address_mut(lent.links),
+            lent.links.len(),
+            address_mut(lent.items),
+            lent.items.len(),
+            any,
+        )
+    }
+}
+
+/// The fields are found, outline and distance.
+#[inline]
+pub fn set_nearest(
+    (vertices, counts): (&[f64], &[u32]),
+    [x, y]: [f64; 2],
+    lent: Lent,
+    (found, outline, distance): &mut (u32, u32, f64),
+) -> u32 {
+    unsafe {
+        exports::vk_set_nearest(
+            address(vertices),
+            vertices.len(),
+            address(counts),
+            counts.len(),
+            x,
+            y,
+            address_mut(lent.corners),
+            lent.corners.len(),
+            address_mut(lent.links),
+            lent.links.len(),
+            address_mut(lent.items),
+            lent.items.len(),
+            found,
+            outline,
+            distance,
+        )
+    }
 }

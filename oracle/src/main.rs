@@ -4,7 +4,8 @@
 //! options: --seed N       the cases' seed (default 1); 'time' takes one from the clock
 //!          --cases N      cases of each number operation (default 10,000,000); a fifth as many
 //!                         outlines, with thirteen calls on each, a fifth as many outlines with a
-//!                         cell to fill, and a tenth as many ellipses
+//!                         cell to fill, a tenth as many ellipses, and a twentieth as many lists
+//!                         of boxes, with three calls on each, and sets of outlines, with two
 //!          --sample N     no comparison: writes about N cases with the Rust's answers ..
 //!          --to FOLDER    .. to FOLDER/stdin and FOLDER/stdout
 //!
@@ -12,8 +13,11 @@
 //! patterns (a long outline's first numbers only); 2 bad usage.
 #![allow(dead_code)] // the published modules hold more than is called yet
 
+mod boxes;
+mod buffers;
 mod ellipses;
 mod fills;
+mod indexes;
 mod library;
 mod numbers;
 mod original;
@@ -22,6 +26,7 @@ mod random;
 mod refusals;
 mod report;
 mod sample;
+mod sets;
 mod shapes;
 mod smallest;
 mod standins;
@@ -67,6 +72,8 @@ fn write_sample(seed: u64, count: u64, folder: PathBuf) -> ExitCode {
     outlines::sample(&mut out, seed, count / 4);
     ellipses::sample(&mut out, seed, count / 10);
     fills::sample(&mut out, seed, count / 20);
+    indexes::sample(&mut out, seed, count / 40);
+    sets::sample(&mut out, seed, count / 40);
     match out.write(&folder) {
         Ok(()) => ExitCode::SUCCESS,
         Err(e) => {
@@ -84,6 +91,8 @@ fn compare(seed: u64, cases: u64) -> ExitCode {
     outlines::compare(&mut report, seed, cases / 5);
     ellipses::compare(&mut report, seed, cases / 10);
     fills::compare(&mut report, seed, cases / 5);
+    indexes::compare(&mut report, seed, cases / 20);
+    sets::compare(&mut report, seed, cases / 20);
     let equal = report.finish();
     smallest::print();
     println!("{:.1} s", start.elapsed().as_secs_f64());

@@ -65,6 +65,28 @@ pub mod index {
     use crate::standins::Hypot;
 
     include!(concat!(env!("VISKUNOR_ORIGINAL"), "/index.rs"));
+
+    impl Index {
+        /// The same index with each leaf's items in ascending order: `select_nth_unstable_by` promises
+        /// none.
+        pub fn ascending(mut self) -> Index {
+            for n in &self.nodes {
+                let first = n.first as usize;
+                self.items[first..first + n.count as usize].sort_unstable();
+            }
+            self
+        }
+
+        /// The nodes' corners and links, and the items, as lists of numbers.
+        pub fn numbers(&self) -> (Vec<f64>, Vec<u32>, Vec<u32>) {
+            let corners = |n: &Node| [n.lo[0], n.lo[1], n.hi[0], n.hi[1]];
+            (
+                self.nodes.iter().flat_map(corners).collect(),
+                self.nodes.iter().flat_map(|n| [n.first, n.count]).collect(),
+                self.items.clone(),
+            )
+        }
+    }
 }
 
 /// Calls the original bodies on document 01's examples: the right bodies were taken out, and they

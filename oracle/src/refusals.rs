@@ -1,6 +1,7 @@
 //! Document 01's tests of an outline, a point, a cell and a buffer, "turned away, in checking order", read anew: each
 //! runs over the whole outline before the next. Nothing here comes from the library.
 use crate::original::geometry;
+use crate::sets::Set;
 
 /// Where the field ends, in µm.
 pub const FIELD: f64 = 1_048_576.0;
@@ -56,19 +57,97 @@ pub fn query(list: &[f64], point: Option<[f64; 2]>) -> u32 {
 }
 
 /// What a fill gets before it clips, with a buffer of `room` numbers.
-pub fn fill(list: &[f64], [min_x, min_y, max_x, max_y]: [f64; 4], room: usize) -> u32 {
+pub fn fill(list: &[f64], cell: [f64; 4], room: usize) -> u32 {
     let number = query(list, None);
     if number != 0 {
         return number;
     }
-    let range = |min: f64, max: f64| min.abs() <= FIELD && max.abs() <= FIELD && min <= max;
-    if !(range(min_x, max_x) && range(min_y, max_y)) {
+    if !is_box(&cell) {
         return 11;
     }
     if room / 8 < list.len() / 2 {
         return 13;
     }
     0
+}
+
+/// Whether four numbers are a box of the field: min x, min y, max x, max y.
+fn is_box(b: &[f64]) -> bool {
+    let range = |min: f64, max: f64| min.abs() <= FIELD && max.abs() <= FIELD && min <= max;
+    range(b[0], b[2]) && range(b[1], b[3])
+}
+
+/// What a list of boxes gets, and after it a cell where the call takes one.
+fn boxes(list: &[f64], cell: Option<[f64; 4]>) -> u32 {
+    if list.len() > 4096 {
+        return 4;
+    }
+    let whole = list.len() % 4 == 0 && list.chunks(4).all(is_box);
+    if whole && cell.is_none_or(|c| is_box(&c)) {
+        0
+    } else {
+        11
+    }
+}
+
+/// Whether an index buffer is shorter than its stated size.
+fn is_short([corners, links, items]: [usize; 3]) -> bool {
+    corners < 4 * 511 || links < 2 * 511 || items < 1024
+}
+
+/// What building gets, with buffers of these lengths.
+pub fn build(list: &[f64], lengths: [usize; 3]) -> u32 {
+    match boxes(list, None) {
+        0 if is_short(lengths) => 13,
+        number => number,
+    }
+}
+
+/// What `meeting` gets, with buffers of these lengths and a list of `room` places.
+pub fn meeting(list: &[f64], cell: [f64; 4], lengths: [usize; 3], room: usize) -> u32 {
+    match boxes(list, Some(cell)) {
+        0 if is_short(lengths) || room < 1024 => 13,
+        number => number,
+    }
+}
+
+/// What a query over a set gets, with a point and working buffers of these lengths: each test runs over all
+/// outlines before the next.
+pub fn set(set: &Set, point: [f64; 2], lengths: [usize; 3]) -> u32 {
+    let (list, counts) = set.parts();
+    let sum: u64 = counts.iter().map(|n| u64::from(*n)).sum();
+    if list.len() % 2 == 1 {
+        return 1;
+    }
+    if sum != list.len() as u64 / 2 {
+        return 2;
+    }
+    let outlines = set.outlines();
+    let some = |test: &dyn Fn(&[f64]) -> bool| outlines.iter().any(|o| test(o));
+    let area = |o: &[f64]| geometry::polygon(o).area();
+    let tests: [(u32, &dyn Fn() -> bool); 9] = [
+        (3, &|| some(&|o| o.len() < 6)),
+        (4, &|| {
+            counts.len() > 1024 || sum > 65_536 || some(&|o| o.len() > 8192)
+        }),
+        (5, &|| some(&|o| o.iter().any(|x| !x.is_finite()))),
+        (6, &|| some(&|o| o.iter().any(|x| x.abs() > FIELD))),
+        (7, &|| {
+            some(&|o| (0..o.len() / 2).any(|i| equal_to_next(o, i)))
+        }),
+        (8, &|| some(&|o| area(o) == 0.0)),
+        (9, &|| some(&|o| area(o) < 0.0)),
+        (10, &|| point.iter().any(|x| !(x.abs() <= FIELD))),
+        (13, &|| is_short(lengths)),
+    ];
+    let first = tests.iter().find(|(_, turns_away)| turns_away());
+    first.map_or(0, |(number, _)| *number)
+}
+
+/// Whether vertex i equals the one after it.
+fn equal_to_next(list: &[f64], i: usize) -> bool {
+    let v = vertices(list);
+    v[i] == v[(i + 1) % v.len()]
 }
 
 /// What an ellipse gets: its centre, its semi-axes and the point.

@@ -65,6 +65,59 @@ impl Sample {
         self.outline("fill", list, &more, answer.trim_end());
     }
 
+    /// A call of the build in buffers of ones of the stated sizes: the counts, and of an accepted call the
+    /// nodes and items.
+    pub fn index_build(
+        &mut self,
+        list: &[f64],
+        [number, nodes, items]: [u32; 3],
+        built: Option<(Vec<f64>, Vec<u32>, Vec<u32>)>,
+    ) {
+        let mut answer = format!("{number:x} {nodes:x} {items:x}");
+        if let Some((corners, links, items)) = built {
+            answer += &format!(" {}", hex_list(&corners));
+            for n in links.iter().chain(&items) {
+                answer += &format!(" {n:x}");
+            }
+        }
+        self.outline("build", list, "", &answer);
+    }
+
+    /// A call of `meeting`: how many items it lists, and these.
+    pub fn index_meeting(&mut self, list: &[f64], cell: [f64; 4], number: u32, found: &[u32]) {
+        let mut answer = format!("{number:x} {:x}", found.len());
+        for k in found {
+            answer += &format!(" {k:x}");
+        }
+        self.outline("meeting", list, &hex_list(&cell), &answer);
+    }
+
+    /// A query over a set: its vertices and its counts come as lists.
+    fn set(&mut self, operation: &str, set: (&[f64], &[u32]), p: [f64; 2], answer: &str) {
+        let (vertices, counts) = set;
+        let mut more = format!("{:x}", counts.len());
+        for n in counts {
+            more += &format!(" {n:x}");
+        }
+        more += &format!(" {}", hex_list(&p));
+        self.outline(operation, vertices, &more, answer);
+    }
+
+    pub fn set_any_at(&mut self, set: (&[f64], &[u32]), p: [f64; 2], number: u32, any: u32) {
+        self.set("any_at", set, p, &format!("{number:x} {any:x}"));
+    }
+
+    pub fn set_nearest(
+        &mut self,
+        set: (&[f64], &[u32]),
+        p: [f64; 2],
+        number: u32,
+        (found, outline, distance): (u32, u32, f64),
+    ) {
+        let answer = format!("{number:x} {found:x} {outline:x} {}", hex(distance));
+        self.set("nearest", set, p, &answer);
+    }
+
     pub fn write(&self, folder: &Path) -> std::io::Result<()> {
         fs::write(folder.join("stdin"), &self.calls)?;
         fs::write(folder.join("stdout"), &self.answers)

@@ -24,6 +24,11 @@ pointInField p = inField (p .x) && inField (p .y)
 abbrev pub edgeInField : Edge → Bool
 edgeInField e = pointInField (e .a) && pointInField (e .b)
 
+-- a box of the field, no minimum above its maximum
+unfoldable pub boxFits : Bounds → Bool
+unfolding neg le
+boxFits b = inField (b .min .x) && (inField (b .min .y) && (inField (b .max .x) && (inField (b .max .y) && (le (b .min .x) (b .max .x) && le (b .min .y) (b .max .y)))))
+
 -- what holds of a point's two coordinates, of an edge's ends, of a box's corners
 pub record PointOf (P : Float → Type 0) (p : Point) : Type 0 where
   pub x : P (p .x)

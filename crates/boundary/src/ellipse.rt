@@ -23,7 +23,8 @@ fn curve_at(c: Curve, s: f64) -> f64
     excess_of(c.n0 / (s + c.r0), c.z1 / (s + 1.0))
 }
 
-fn middle_of(s0: f64, s1: f64) -> f64
+// Half the sum.
+pub fn middle_of(s0: f64, s1: f64) -> f64
     ensures { λ r. ⌜ r ≡ middle s0 s1 ⌝ }
 {
     0.5 * (s0 + s1)

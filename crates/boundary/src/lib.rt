@@ -11,6 +11,7 @@ ghost use Rattle.boundary.specs.Length.{edgeLength, lengthOf};
 ghost use Rattle.boundary.specs.Piece.{pieceNear};
 
 // A point, in µm.
+#[repr(C)]
 pub struct Point {
     pub x: f64,
     pub y: f64,

@@ -14,7 +14,7 @@ use Rattle.number.specs.Exact.{zeroᶠ}
 use Rattle.clip.specs.declared.Side.{Side}
 use Rattle.clip.specs.declared.Marks.{Marks}
 use Rattle.clip.specs.Clip.{at, coordOf, inside, crossing, crosses, Part, partOf, partsOf, parts, lead, lastKept, turned, keptLines, joint, onward, joined, clipOf}
-use Rattle.clip.specs.Passes.{markAt, marksOf, firstOf, secondOf, comesIn, startOf, Path, samePlace, if-on, lineOf, followed, stepOf, nothing, closed, traced}
+use Rattle.clip.specs.Passes.{markAt, uncutOf, marksBetween, marksOf, firstOf, secondOf, comesIn, startOf, Path, samePlace, if-on, lineOf, followed, stepOf, nothing, closed, traced}
 use Rattle.clip.proofs.Runs.{fold-append}
 
 -- ---- the parts of one line
@@ -31,7 +31,7 @@ unfolding inside markAt
 inside-at s e u = rw (coord-at (s .y) e u)
 
 abbrev two : Bool → Float → Bool → Bool → Bool → Marks
-two c u f a w = cond c (record { cut = true; u = u; fore = f; aft = a }) (record { cut = false; u = u; fore = w; aft = w })
+two c u f a w = cond c (record { cut = true; u = u; fore = f; aft = a }) (record { cut = false; u = zeroᶠ; fore = w; aft = w })
 
 two-parts : (e : Edge) (c : Bool) (u : Float) (f a w : Bool)
     → cond c (record { line = record { a = at e zeroᶠ; b = at e u }; kept = f } ∷ record { line = record { a = at e u; b = at e one }; kept = a } ∷ []) (record { line = e; kept = w } ∷ [])
@@ -48,12 +48,12 @@ abbrev marks : Side → Edge → List Part
 marks s e = let m = marksOf s e in blocks (m .cut) (m .fore) (m .aft) (firstOf m e) (secondOf m e)
 
 parts-marks : (s : Side) (e : Edge) → partsOf s e ≡ marks s e
-unfolding partsOf partOf marksOf
+unfolding partsOf partOf marksOf marksBetween uncutOf crosses
 parts-marks s e = simp inside-at (two-parts e (crosses s e) (crossing s e) _ _ _)
 
 -- a line that is not cut has one mark
 whole : (s : Side) (e : Edge) → marksOf s e .cut ≡ false → marksOf s e .aft ≡ marksOf s e .fore
-unfolding marksOf
+unfolding marksOf marksBetween uncutOf crosses
 whole s e = two-whole (crosses s e) (crossing s e) _ _ _
 
 -- ---- whether some part has a mark

@@ -3,7 +3,7 @@ use mathlib.Core.Bool.{Bool, true, false, not, _&&_, _||_, cond}
 use mathlib.Core.List.{List, [], _∷_, _++_}
 use Prim.Native.Nat.{ℕ, suc}
 use lib.Dec.{eqb}
-use lib.Ieee.{Float, binary64, add, mul, lt, le, eq, ne}
+use lib.Ieee.{Float, binary64, add, sub, mul, div, lt, le, eq, ne}
 use Rattle.number.specs.Exact.{zeroᶠ}
 use Rattle.boundary.specs.declared.Point.{Point}
 use Rattle.boundary.specs.declared.Edge.{Edge}
@@ -14,7 +14,7 @@ use Rattle.clip.specs.declared.Side.{Side}
 use Rattle.clip.specs.declared.Marks.{Marks}
 use Rattle.clip.specs.declared.Survey.{Survey}
 use Rattle.clip.specs.declared.Pen.{Pen}
-use Rattle.clip.specs.Clip.{at, coordOf, crossing, crosses}
+use Rattle.clip.specs.Clip.{at, coordOf}
 
 -- ---- the marks of a line
 -- whether a coordinate is inside
@@ -29,18 +29,22 @@ cutAt d u = (ne d zeroᶠ && lt zeroᶠ u) && lt u one
 unfoldable pub markAt : Side → Float → Float → Float → Bool
 markAt s a b u = coordInside s (alongOf a b u)
 
--- whether the middle of the part from u to v is
-abbrev pub markOf : Side → Edge → Float → Float → Bool
-markOf s e u v = markAt s (coordOf s (e .a)) (coordOf s (e .b)) (mul binary64 half (add binary64 u v))
+-- the marks of a line that is not cut, whose coordinate goes from a to b: it has no u, and its midpoint marks it
+unfoldable pub uncutOf : Side → Float → Float → Marks
+uncutOf s a b = let whole = markAt s a b half in record { cut = false; u = zeroᶠ; fore = whole; aft = whole }
 
--- whether a line is cut and where, and the marks of its first and its last part
+-- whether such a line is cut and where, and the marks of its first and its last part, by their midpoints
+unfoldable pub marksBetween : Side → Float → Float → Marks
+marksBetween s a b =
+    let d = sub binary64 b a in
+    let u = div binary64 (sub binary64 (s .v) a) d in
+    cond (cutAt d u)
+    (record { cut = true; u = u; fore = markAt s a b (mul binary64 half (add binary64 zeroᶠ u)); aft = markAt s a b (mul binary64 half (add binary64 u one)) })
+    (uncutOf s a b)
+
+-- the marks of a line, by the coordinate that the half-plane bounds
 unfoldable pub marksOf : Side → Edge → Marks
-marksOf s e =
-    let u = crossing s e in
-    let whole = markAt s (coordOf s (e .a)) (coordOf s (e .b)) half in
-    cond (crosses s e)
-    (record { cut = true; u = u; fore = markOf s e zeroᶠ u; aft = markOf s e u one })
-    (record { cut = false; u = u; fore = whole; aft = whole })
+marksOf s e = marksBetween s (coordOf s (e .a)) (coordOf s (e .b))
 
 -- the first part and the last; a line that is not cut is its own first part
 unfoldable pub firstOf : Marks → Edge → Edge

@@ -1,7 +1,7 @@
 // The parts of a line, and which of them are inside.
 ghost use mathlib.Core.Path.{_≡_};
 ghost use Rattle.clip.specs.Clip.{at, coordOf};
-ghost use Rattle.clip.specs.Passes.{coordInside, cutAt, markAt, marksOf, firstOf, secondOf};
+ghost use Rattle.clip.specs.Passes.{coordInside, cutAt, markAt, uncutOf, marksBetween, marksOf, firstOf, secondOf};
 use crate::Marks;
 use crate::Side;
 use boundary::Edge;
@@ -37,14 +37,30 @@ fn mark(s: Side, a: f64, b: f64, u: f64) -> bool
     is_inside(s, along(a, b, u))
 }
 
-// The marks of a line.
-pub fn marked(s: Side, e: Edge) -> Marks
-    ensures { λ r. ⌜ r ≡ marksOf s e ⌝ }
+// The marks of a line that is not cut, whose coordinate goes from a to b: both are its midpoint's.
+fn uncut(s: Side, a: f64, b: f64) -> Marks
+    ensures { λ r. ⌜ r ≡ uncutOf s a b ⌝ }
 {
-    let a = coord(s, e.a);
-    let b = coord(s, e.b);
+    let whole = mark(s, a, b, 0.5);
+    Marks {
+        cut: false,
+        u: 0.0,
+        fore: whole,
+        aft: whole,
+    }
+}
+
+// The marks of a line whose coordinate goes from a to b. From its start on, the bound is p away, and its end
+// d. It is cut only where p lies between 0 and d; where p does not, there is nothing to divide.
+pub fn between(s: Side, a: f64, b: f64) -> Marks
+    ensures { λ r. ⌜ r ≡ marksBetween s a b ⌝ }
+{
+    let p = s.v - a;
     let d = b - a;
-    let u = (s.v - a) / d;
+    if (p > 0.0) != (p < d) {
+        return uncut(s, a, b);
+    }
+    let u = p / d;
     if is_cut(d, u) {
         return Marks {
             cut: true,
@@ -53,13 +69,14 @@ pub fn marked(s: Side, e: Edge) -> Marks
             aft: mark(s, a, b, 0.5 * (u + 1.0)),
         };
     }
-    let whole = mark(s, a, b, 0.5);
-    Marks {
-        cut: false,
-        u,
-        fore: whole,
-        aft: whole,
-    }
+    uncut(s, a, b)
+}
+
+// The marks of a line.
+pub fn marked(s: Side, e: Edge) -> Marks
+    ensures { λ r. ⌜ r ≡ marksOf s e ⌝ }
+{
+    between(s, coord(s, e.a), coord(s, e.b))
 }
 
 // The point at u along a line.

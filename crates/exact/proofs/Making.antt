@@ -29,7 +29,8 @@ use Rattle.geometry.specs.declared.Refusal.the-variants.{ShortBuffer}
 use Rattle.geometry.specs.Polygon.{areaOf}
 use Rattle.geometry.specs.Refusals.{samePoint, shapeTested, signTested, outlineTested}
 use Rattle.geometry.specs.Answers.{answerFor}
-use Rattle.geometry.specs.Making.{kept, keptCount, tooShort, numbers, turned, atFront, makeAnswer, writtenFor, madeList}
+use Rattle.geometry.specs.Making.{kept, keptCount, tooShort, numbers, turned, makeAnswer, writtenFor, madeList}
+use Rattle.geometry.specs.Lists.{atFront}
 use Rattle.exact.specs.Whole.{PointZ, EdgeZ, edgeZ, crossZ, shoelaceZ}
 use Rattle.exact.specs.Grid.{PointOn, EdgeOn, Each, EdgesOn, OutlineOn}
 use Rattle.exact.specs.OneOutline.{MadeOn}

@@ -12,7 +12,7 @@ use Rattle.boundary.specs.declared.Point.{Point}
 use Rattle.boundary.specs.declared.Bounds.{Bounds}
 use Rattle.boundary.specs.declared.Near.{Near}
 use Rattle.boundary.specs.declared.Distance.{Distance}
-use Rattle.boundary.specs.Boxes.{scaleOf, widenedOf}
+use Rattle.boundary.specs.Boxes.{boxFits, scaleOf, widenedOf}
 use Rattle.boundary.specs.Folds.{run, fold, any, oddly, total}
 use Rattle.boundary.specs.Outline.{vertices, edges}
 use Rattle.boundary.specs.Length.{edgeLength, lengthOf}
@@ -30,11 +30,18 @@ use Rattle.geometry.specs.Making.{madeList}
 use Rattle.geometry.specs.Ellipse.{offsetFits, ellipseFits, ellipseAnswer}
 use Rattle.clip.specs.Clip.{inside, crosses, partOf, partsOf, parts, lead, lastKept, turned, keptLines, joint, onward, joined, clipOf}
 use Rattle.fill.specs.Fill.{xdyOf, fillOf, longOf}
-use Rattle.fill.specs.Answers.{cellFits, cellTested, roomTested, fillTested, filled, fillAnswer}
+use Rattle.fill.specs.Answers.{cellTested, roomTested, fillTested, filled, fillAnswer}
 use Rattle.sorts.specs.Sort.{insert, sort}
 use Rattle.index.specs.Entries.{boxAt, wideAt}
 use Rattle.index.specs.Tree.{hull, hullOf, treeOn, indexOf}
 use Rattle.meeting.specs.Meeting.{apart, meetingOf}
+use Rattle.index.specs.declared.Test.the-variants.{Passed}
+use Rattle.set.specs.Set.{startOf, outlineAt, outlinesOf}
+use Rattle.set.specs.Tests.{outlinesTested, sizesTested, setTested, pointTestedIn}
+use Rattle.nearest.specs.declared.Nearest.{Nearest}
+use Rattle.nearest.specs.declared.Nearest.the-variants.{At}
+use Rattle.nearest.specs.Nearest.{magnitudeOf, magnitudeAt, leastOf, nearestIn}
+use Rattle.nearest.specs.Answers.{nearestFor}
 
 -- whole numbers of µm
 abbrev pub um : ℕ → Float
@@ -76,11 +83,26 @@ boxes = list (0 ∷ 0 ∷ 1 ∷ 1 ∷ 10 ∷ 10 ∷ 11 ∷ 11 ∷ [])
 abbrev pub cell : ℕ → ℕ → ℕ → ℕ → Bounds
 cell x y z t = record { min = at x y; max = at z t }
 
--- what a call gives: an answer, a lent list of numbers, or a list of items
+-- S moved 10 right, and the set of both
+abbrev pub S-right : List Float
+S-right = list (10 ∷ 0 ∷ 14 ∷ 0 ∷ 14 ∷ 4 ∷ 10 ∷ 4 ∷ [])
+
+abbrev pub both : List Float
+both = list (0 ∷ 0 ∷ 4 ∷ 0 ∷ 4 ∷ 4 ∷ 0 ∷ 4 ∷ 10 ∷ 0 ∷ 14 ∷ 0 ∷ 14 ∷ 4 ∷ 10 ∷ 4 ∷ [])
+
+abbrev pub fours : List ℕ
+fours = 4 ∷ 4 ∷ []
+
+-- what a nearest query answers in working buffers of index size
+abbrev pub nearest-of : List Float → List ℕ → Point → Nearest
+nearest-of v cs p = nearestFor (nearestIn v cs p) (pointTestedIn p (setTested v cs))
+
+-- what a call gives: an answer, a lent list of numbers, a list of items, or the nearest outline
 pub data Given : Type 0 where
   answers : Answer → Given
   leaves : List Float → Given
   lists : List ℕ → Given
+  finds : Nearest → Given
 
 -- what a call gives, and what the document says that it gives
 pub record Example : Type 0 where
@@ -94,7 +116,8 @@ g ⊢ s = record { gives = g; said = s }
 -- the normal of (1,2) has y = -0: inside, both coordinates are negated
 unfoldable pub starred : List Example
 starred =
-    (answers (distanceAnswer S (at 6 2)) ⊢ answers (Away (away (um 2) (um 1) (um 0))))
+    (finds (nearest-of both fours (at 7 2)) ⊢ finds (At (record { outline = 0; distance = um 3 })))
+    ∷ (answers (distanceAnswer S (at 6 2)) ⊢ answers (Away (away (um 2) (um 1) (um 0))))
     ∷ (answers (distanceAnswer S (at 1 2)) ⊢ answers (Away (away (neg (um 1)) (neg (um 1)) (neg (um 0)))))
     ∷ (answers (distanceAnswer S (at 7 8)) ⊢ answers (Away (away (um 5) (tenths 6) (tenths 8))))
     ∷ (answers (areaAnswer S) ⊢ answers (Measure (um 16)))
@@ -168,10 +191,56 @@ distance-7 : distanceAnswer S (at 7 8) ≡ Away (away (um 5) (tenths 6) (tenths 
 unfolding distanceAnswer answerFor outlineTested signTested shapeTested valuesTested areaTested pointTested areaOf containsOf crossesOf oddly any fold run edges add sub mul div neg lt le eq ofInt
 distance-7 = signed-at (at 7 8) false _ _ nearest-7 signed-7 ∙ in-tenths
 
+-- the nearest of two outlines: the magnitude of each first
+nearest-left : nearestOf (edges S) (at 7 2) ≡ record { d = um 3; q = at 4 2; n = record { x = um 1; y = neg (um 0) } }
+unfolding nearestOf pieceNear lineNear footOf paramOf alongOf normalOf hypotOf sqrtOf clampOf edges run fold add sub mul div neg lt eq ofInt
+nearest-left = refl
+
+nearest-right : nearestOf (edges S-right) (at 7 2) ≡ record { d = um 3; q = at 10 2; n = record { x = neg (um 1); y = neg (um 0) } }
+unfolding nearestOf pieceNear lineNear footOf paramOf alongOf normalOf hypotOf sqrtOf clampOf edges run fold add sub mul div neg lt eq ofInt
+nearest-right = refl
+
+magnitude-of : (o : List Float) (c : Near) → nearestOf (edges o) (at 7 2) ≡ c → absOf (signedOf c (at 7 2) (containsOf (edges o) (at 7 2)) .d) ≡ um 3 → magnitudeOf o (at 7 2) ≡ um 3
+unfolding magnitudeOf
+magnitude-of o c e f = rw e f
+
+magnitude-left : magnitudeOf S (at 7 2) ≡ um 3
+unfolding containsOf crossesOf oddly fold run edges signedOf roundingOf absOf withSign maxOf before signBit isNan add sub mul div neg lt eq ofInt
+magnitude-left = magnitude-of S _ nearest-left refl
+
+magnitude-right : magnitudeOf S-right (at 7 2) ≡ um 3
+unfolding containsOf crossesOf oddly fold run edges signedOf roundingOf absOf withSign maxOf before signBit isNan add sub mul div neg lt eq ofInt
+magnitude-right = magnitude-of S-right _ nearest-right refl
+
+outlines-of-both : (outlineAt both fours 0 ≡ S) × (outlineAt both fours 1 ≡ S-right)
+unfolding outlineAt startOf
+outlines-of-both = (refl, refl)
+
+least-of-two : (D : ℕ → Float) → D 0 ≡ um 3 → D 1 ≡ um 3 → leastOf D 2 ≡ record { outline = 0; distance = um 3 }
+unfolding leastOf fold run lt ofInt
+least-of-two D e f = rw (e, f)
+
+nearest-both : nearestIn both fours (at 7 2) ≡ At (record { outline = 0; distance = um 3 })
+unfolding nearestIn
+nearest-both =
+    ap At
+    (least-of-two
+    (magnitudeAt both fours (at 7 2))
+    (ap (λ (o : List Float). magnitudeOf o (at 7 2)) (outlines-of-both .0) ∙ magnitude-left)
+    (ap (λ (o : List Float). magnitudeOf o (at 7 2)) (outlines-of-both .1) ∙ magnitude-right))
+
+both-passes : pointTestedIn (at 7 2) (setTested both fours) ≡ Passed
+unfolding pointTestedIn setTested sizesTested outlinesTested outlinesOf outlineAt startOf any fold run edges areaOf total add sub mul div neg lt le eq ofInt
+both-passes = refl
+
+found-both : nearest-of both fours (at 7 2) ≡ At (record { outline = 0; distance = um 3 })
+unfolding nearestFor
+found-both = rw (both-passes, nearest-both)
+
 also : {g s : Given} {gs ss : List Given} → g ≡ s → gs ≡ ss → (g ∷ gs) ≡ (s ∷ ss)
 also e es = rw (e, es)
 
 -- every example holds
 pub starred-hold : map (λ (e : Example). e .gives) starred ≡ map (λ (e : Example). e .said) starred
-unfolding starred areaAnswer perimeterAnswer containsAnswer locateAnswer madeList answerFor outlineTested signTested shapeTested valuesTested areaTested pointTested areaOf containsOf crossesOf locateOf onEdge lengthOf edgeLength ellipseAnswer ellipseFits offsetFits pieceNear ellipseNear ellipseFoot ellipseNearest longNearest quadrantNearest onAxis copysignOf absOf withSign signBit maxOf before hypotOf sqrtOf total any oddly fold run edges vertices add sub mul div neg lt le eq ofInt fillAnswer fillTested roomTested cellTested cellFits filled longOf fillOf xdyOf clipOf joined onward joint keptLines turned lastKept lead parts partsOf partOf crosses inside Rattle.clip.specs.Clip.at alongOf flatMap ne meetingOf apart indexOf treeOn hullOf hull wideAt boxAt widenedOf scaleOf sort insert isNan
-starred-hold = also (ap answers distance-6) (also (ap answers distance-1) (also (ap answers distance-7) refl))
+unfolding starred areaAnswer perimeterAnswer containsAnswer locateAnswer madeList answerFor outlineTested signTested shapeTested valuesTested areaTested pointTested areaOf containsOf crossesOf locateOf onEdge lengthOf edgeLength ellipseAnswer ellipseFits offsetFits pieceNear ellipseNear ellipseFoot ellipseNearest longNearest quadrantNearest onAxis copysignOf absOf withSign signBit maxOf before hypotOf sqrtOf total any oddly fold run edges vertices add sub mul div neg lt le eq ofInt fillAnswer fillTested roomTested cellTested boxFits filled longOf fillOf xdyOf clipOf joined onward joint keptLines turned lastKept lead parts partsOf partOf crosses inside Rattle.clip.specs.Clip.at alongOf flatMap ne meetingOf apart indexOf treeOn hullOf hull wideAt boxAt widenedOf scaleOf sort insert isNan
+starred-hold = also (ap finds found-both) (also (ap answers distance-6) (also (ap answers distance-1) (also (ap answers distance-7) refl)))

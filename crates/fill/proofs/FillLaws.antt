@@ -1,4 +1,4 @@
--- A buffer that is cleared, the list that goes into the clips, and what the tests tell. Assumes nothing.
+-- The list that goes into the clips, and what the tests tell. Assumes nothing.
 use mathlib.Core.Path.{_≡_, refl, ap}
 use mathlib.Core.List.{List, [], _∷_, _++_}
 use mathlib.Core.Bool.{Bool, true, false, cond}
@@ -16,15 +16,6 @@ use Rattle.geometry.specs.declared.Refusal.the-variants.{ShortBuffer}
 use Rattle.geometry.specs.declared.Verdict.{Verdict}
 use Rattle.geometry.specs.declared.Verdict.the-variants.{Passed, Failed}
 use Rattle.fill.specs.Answers.{roomTested}
-
-set-next : (n : ℕ) (a : Float) (w : List Float) → n < length w → set (replicate n a ++ drop n w) n a ≡ replicate (suc n) a ++ drop (suc n) w
-set-next n a [] l = absurd (not-suc-le-zero l)
-set-next zero a (x ∷ w) l = refl
-set-next (suc n) a (x ∷ w) l = ap (λ (v : List Float). a ∷ v) (set-next n a w (le-of-suc-le-suc l))
-
--- one more place is set
-pub cleared-next : (n : ℕ) (a : Float) (w v : List Float) → n < length w → v ≡ replicate n a ++ drop n w → set v n a ≡ replicate (n + 1) a ++ drop (n + 1) w
-cleared-next n a w v l e = rw (e, add-one) (set-next n a w l)
 
 -- a list that fits, where there is more room
 pub widened : {to room wide : ℕ} {w : List Float} {n : ℕ} {es : List Edge} → Holds to room w n es → n ≤ room → Holds to wide w n es

@@ -1,10 +1,10 @@
 -- A call for the fill of a cell: its tests in document 01's order, what it answers, and the buffer that it leaves. Definitions only.
-use mathlib.Core.Bool.{Bool, _&&_, cond}
-use mathlib.Core.List.{List, _++_}
+use mathlib.Core.Bool.{cond}
+use mathlib.Core.List.{List}
 use Prim.Native.Nat.{ℕ, _*_, _/_}
 use lib.Dec.{ltb}
-use lib.ListN.{length, drop, replicate}
-use lib.Ieee.{Float, le}
+use lib.ListN.{length}
+use lib.Ieee.{Float}
 use Rattle.number.specs.Exact.{zeroᶠ}
 use Rattle.boundary.specs.declared.Edge.{Edge}
 use Rattle.boundary.specs.Outline.{count, edges}
@@ -14,9 +14,10 @@ use Rattle.geometry.specs.declared.Answer.the-variants.{Refused, Measure}
 use Rattle.geometry.specs.declared.Refusal.the-variants.{BadBox, ShortBuffer, LongList}
 use Rattle.geometry.specs.declared.Verdict.{Verdict}
 use Rattle.geometry.specs.declared.Verdict.the-variants.{Passed, Failed}
-use Rattle.boundary.specs.Boxes.{inField}
+use Rattle.boundary.specs.Boxes.{boxFits}
 use Rattle.geometry.specs.Refusals.{outlineTested}
 use Rattle.geometry.specs.Answers.{answerFor}
+use Rattle.geometry.specs.Lists.{atFront, zeros}
 use Rattle.fill.specs.Fill.{fillOf, longOf}
 
 -- the pieces of a half, of four numbers each: the most that fit twice into a buffer of `room` numbers
@@ -24,14 +25,8 @@ abbrev pub halfOf : ℕ → ℕ
 halfOf room = room / 8
 
 -- ---- test 11: the cell's numbers are in the field, and no minimum is above its maximum
-abbrev pub rangeFits : Float → Float → Bool
-rangeFits min max = (inField min && inField max) && le min max
-
-unfoldable pub cellFits : Bounds → Bool
-cellFits c = rangeFits (c .min .x) (c .max .x) && rangeFits (c .min .y) (c .max .y)
-
 unfoldable pub cellTested : Bounds → Verdict → Verdict
-cellTested c (Passed a) = cond (cellFits c) (Passed a) (Failed BadBox)
+cellTested c (Passed a) = cond (boxFits c) (Passed a) (Failed BadBox)
 cellTested c (Failed r) = Failed r
 
 -- ---- test 13: a half has at least one piece per vertex
@@ -52,7 +47,8 @@ fillAnswer v c room = answerFor (fillTested v c room) (λ a. filled (halfOf room
 
 -- ---- the buffer then: zeros in both halves, or unchanged where a test turns the call away
 unfoldable pub cleared : List Float → List Float
-cleared w = let n = 8 * halfOf (length w) in replicate n zeroᶠ ++ drop n w
+unfolding atFront
+cleared w = atFront (zeros zeroᶠ (8 * halfOf (length w))) w
 
 unfoldable pub leftFor : Verdict → List Float → List Float
 leftFor (Passed a) w = cleared w

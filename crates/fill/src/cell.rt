@@ -1,10 +1,9 @@
 // The fill of a cell: the four clips, the sum, and the halves cleared.
 ghost use mathlib.Core.Path.{_≡_};
 ghost use mathlib.Core.Bool.{Bool, cond};
-ghost use mathlib.Core.List.{List, _++_};
+ghost use mathlib.Core.List.{List};
 ghost use Prim.Native.Nat.{_+_, _*_, _≤_};
-ghost use lib.ListN.{length, drop, replicate};
-ghost use Rattle.number.specs.Exact.{zeroᶠ};
+ghost use lib.ListN.{length, drop};
 ghost use Rattle.boundary.specs.declared.Edge.{Edge};
 ghost use Rattle.boundary.specs.Folds.{total};
 ghost use Rattle.boundary.specs.Outline.{count, edges};
@@ -99,18 +98,6 @@ fn summed(w: &[f64], half: usize, c: Stored) -> Answer
     Answer::Measure(sum(w, clip::halves::place(half, second), n))
 }
 
-// Zeros in the first n places.
-fn clear(w: &mut [f64], n: usize)
-    requires { ⌜ n ≤ length (now w) ⌝ }
-    ensures { λ _. ⌜ now (w .exit) ≡ replicate n zeroᶠ ++ drop n (now (w .entry)) ⌝ }
-{
-    let mut i = 0;
-    while i < n {
-        w[i] = 0.0;
-        i += 1;
-    }
-}
-
 // The fill, in a buffer that is long enough.
 pub fn fill_in(v: &[f64], c: Bounds, w: &mut [f64]) -> Answer
     requires { ⌜ count (now v) ≤ halfOf (length (now w)) ⌝ }
@@ -120,6 +107,6 @@ pub fn fill_in(v: &[f64], c: Bounds, w: &mut [f64]) -> Answer
     write_edges(v, w);
     let last = four(w, half, v.len() / 2, c);
     let answer = summed(w, half, last);
-    clear(w, 8 * half);
+    geometry::lists::clear_numbers(w, 8 * half);
     answer
 }

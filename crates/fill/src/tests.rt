@@ -1,22 +1,10 @@
 // The tests of a call: the outline, the cell, the buffer.
 ghost use mathlib.Core.Path.{_≡_};
-ghost use Rattle.fill.specs.Answers.{rangeFits, cellFits, cellTested, roomTested, fillTested};
+ghost use Rattle.fill.specs.Answers.{cellTested, roomTested, fillTested};
 use boundary::Bounds;
 use geometry::Refusal;
 use geometry::Verdict;
-use geometry::refusals::in_field;
-
-fn range_fits(min: f64, max: f64) -> bool
-    ensures { λ r. ⌜ r ≡ rangeFits min max ⌝ }
-{
-    in_field(min) & in_field(max) & (min <= max)
-}
-
-fn cell_fits(c: Bounds) -> bool
-    ensures { λ r. ⌜ r ≡ cellFits c ⌝ }
-{
-    range_fits(c.min.x, c.max.x) & range_fits(c.min.y, c.max.y)
-}
+use geometry::refusals::box_fits;
 
 // Test 11, after those of the outline.
 fn cell_tested(c: Bounds, t: Verdict) -> Verdict
@@ -24,7 +12,7 @@ fn cell_tested(c: Bounds, t: Verdict) -> Verdict
 {
     match t {
         Verdict::Passed(a) => {
-            if cell_fits(c) {
+            if box_fits(c) {
                 Verdict::Passed(a)
             } else {
                 Verdict::Failed(Refusal::BadBox)

@@ -8,5 +8,7 @@ pub mod Refusals
 pub mod Answers
 -- The nearest point of an ellipse.
 pub mod Ellipse
+-- Lent lists, as a call leaves them.
+pub mod Lists
 -- Making an outline.
 pub mod Making

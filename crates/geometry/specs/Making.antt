@@ -1,9 +1,9 @@
 -- Making an outline (`Polygon::new`): one closing vertex equal to the first is dropped, the rest is tested, and a negative outline is reversed. Definitions only.
 use mathlib.Core.Bool.{Bool, _&&_, cond}
-use mathlib.Core.List.{List, [], _∷_, _++_, reverse}
+use mathlib.Core.List.{List, [], _∷_, reverse}
 use Prim.Native.Nat.{ℕ, _-_}
 use lib.Dec.{ltb}
-use lib.ListN.{length, take, drop}
+use lib.ListN.{length, take}
 use lib.Ieee.{Float, lt}
 use Rattle.number.specs.Exact.{zeroᶠ}
 use Rattle.boundary.specs.declared.Point.{Point}
@@ -15,6 +15,7 @@ use Rattle.geometry.specs.declared.Verdict.{Verdict}
 use Rattle.geometry.specs.declared.Verdict.the-variants.{Passed, Failed}
 use Rattle.geometry.specs.Refusals.{samePoint, shapeTested}
 use Rattle.geometry.specs.Answers.{answerFor}
+use Rattle.geometry.specs.Lists.{atFront}
 
 -- the last vertex repeats the first
 unfoldable pub closed : List Float → Bool
@@ -46,10 +47,6 @@ turned back ps = cond back (reverse ps) ps
 unfoldable pub numbers : List Point → List Float
 numbers [] = []
 numbers (p ∷ ps) = p .x ∷ p .y ∷ numbers ps
-
--- xs from the front of the lent list on, and the places past the end unchanged
-unfoldable pub atFront : {A : Type 0} → List A → List A → List A
-atFront xs out = xs ++ drop (length xs) out
 
 -- the lent list then, from what the tests say: the made outline, or nothing written
 unfoldable pub writtenFor : List Float → List Float → Verdict → List Float

@@ -13,7 +13,7 @@ use Rattle.boundary.specs.Boxes.{inField, pointInField}
 use Rattle.boundary.specs.Folds.{any}
 use Rattle.boundary.specs.Outline.{count, edges}
 use Rattle.geometry.specs.declared.Refusal.{Refusal}
-use Rattle.geometry.specs.declared.Refusal.the-variants.{OddCount, TooFew, TooMany, NotFinite, OutsideField, EqualNeighbours, ZeroArea, NegativeArea, BadPoint, BadBox, BadEllipse, ShortBuffer, LongList}
+use Rattle.geometry.specs.declared.Refusal.the-variants.{OddCount, BadCounts, TooFew, TooMany, NotFinite, OutsideField, EqualNeighbours, ZeroArea, NegativeArea, BadPoint, BadBox, BadEllipse, ShortBuffer, LongList}
 use Rattle.geometry.specs.declared.Verdict.{Verdict}
 use Rattle.geometry.specs.declared.Verdict.the-variants.{Passed, Failed}
 use Rattle.geometry.specs.Polygon.{areaOf}
@@ -21,6 +21,7 @@ use Rattle.geometry.specs.Polygon.{areaOf}
 -- the paper's number
 abbrev pub number : Refusal → ℕ
 number OddCount = 1
+number BadCounts = 2
 number TooFew = 3
 number TooMany = 4
 number NotFinite = 5

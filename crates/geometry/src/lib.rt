@@ -1,6 +1,7 @@
 // Outlines (geometry.rs, `Polygon`): their tests, and what is worked out from them. Every answer is
 // an enum with the refusal.
 pub mod ellipse;
+pub mod lists;
 pub mod polygon;
 pub mod refusals;
 
@@ -10,6 +11,7 @@ use boundary::Distance;
 // Why a call is turned away. specs/Refusals.antt has the numbers.
 pub enum Refusal {
     OddCount,
+    BadCounts,
     TooFew,
     TooMany,
     NotFinite,

@@ -2,13 +2,14 @@
 ghost use mathlib.Core.Path.{_≡_};
 ghost use mathlib.Core.Bool.{not, cond};
 ghost use lib.Ieee.Scale.{finite};
-ghost use Rattle.boundary.specs.Boxes.{inField};
+ghost use Rattle.boundary.specs.Boxes.{inField, boxFits};
 ghost use Rattle.boundary.specs.Folds.{any};
 ghost use Rattle.boundary.specs.Outline.{edges};
 ghost use Rattle.geometry.specs.Polygon.{crossOf};
 ghost use Rattle.geometry.specs.Refusals.{number, samePoint, areaTested, edgesTested, valuesTested, shapeTested, outlineTested, signTested, pointTested};
 use crate::Refusal;
 use crate::Verdict;
+use boundary::Bounds;
 use boundary::Edge;
 use boundary::Point;
 
@@ -20,6 +21,7 @@ pub fn number_of(r: Refusal) -> u32
 {
     match r {
         Refusal::OddCount => 1,
+        Refusal::BadCounts => 2,
         Refusal::TooFew => 3,
         Refusal::TooMany => 4,
         Refusal::NotFinite => 5,
@@ -47,6 +49,15 @@ pub fn in_field(x: f64) -> bool
     ensures { λ r. ⌜ r ≡ inField x ⌝ }
 {
     (-LIMIT <= x) & (x <= LIMIT)
+}
+
+// Whether a box is in the field, and no minimum is above its maximum.
+pub fn box_fits(b: Bounds) -> bool
+    ensures { λ r. ⌜ r ≡ boxFits b ⌝ }
+{
+    let upper = in_field(b.max.x)
+        & (in_field(b.max.y) & ((b.min.x <= b.max.x) & (b.min.y <= b.max.y)));
+    in_field(b.min.x) & (in_field(b.min.y) & upper)
 }
 
 pub fn same_point(a: Point, b: Point) -> bool
@@ -113,7 +124,7 @@ fn edges_tested(v: &[f64]) -> Verdict
 }
 
 // Tests 5 to 8. What is not finite is outside the field too, so one pass tells that both pass.
-fn values_tested(v: &[f64]) -> Verdict
+pub fn values_tested(v: &[f64]) -> Verdict
     ensures { λ r. ⌜ r ≡ valuesTested (now (v .entry)) ⌝ }
 {
     if any_unfit(v, false) {
@@ -143,7 +154,7 @@ pub fn shape_tested(v: &[f64]) -> Verdict
 }
 
 // Test 9.
-fn sign_tested(t: Verdict) -> Verdict
+pub fn sign_tested(t: Verdict) -> Verdict
     ensures { λ r. ⌜ r ≡ signTested t ⌝ }
 {
     match t {

@@ -6,13 +6,13 @@ use Prim.Native.Nat.{ℕ, _+_, _*_, _%_, _≤_, _<_}
 use native.Mathlib.Omega.{arith}
 use lib.Dec.{ltb}
 use lib.ListN.{length, getD, List·getD-eq-default}
-use lib.Ieee.{Float, nan}
+use lib.Ieee.{Float, nan, add, mul}
 use borrow.Author.Tests.{ltb-true, ltb-false}
 use Rattle.boundary.specs.declared.Bounds.{Bounds}
 use Rattle.boundary.specs.Boxes.{widenedOf}
 use Rattle.boundary.specs.Folds.{run}
 use Rattle.sorts.specs.Keys.{keyIn}
-use Rattle.index.specs.Entries.{boxCount, boxAt, boxNumbers, flat, wideAt, middle, centreOf, pointIn}
+use Rattle.index.specs.Entries.{boxCount, boxAt, boxNumbers, flat, wideAt, centreOf, pointIn}
 use Rattle.index.proofs.StoreLaws.{length-run, run-at, flat-length, flat-at}
 
 -- a box of which no number is there
@@ -31,7 +31,7 @@ no-wide = refl
 
 module _ (W : ℕ → Bounds) (n : ℕ) where
   -- the numbers of the boxes W 0, W 1, ..
-  abbrev held : List Float
+  abbrev pub held : List Float
   held = flat boxNumbers (run W 0 n)
 
   held-at : (i k : ℕ) → i < n → k < 4 → getD held (4 * i + k) nan ≡ getD (boxNumbers (W i)) k nan
@@ -41,7 +41,7 @@ module _ (W : ℕ → Bounds) (n : ℕ) where
       sym (ap (λ (s : List Float). getD s (4 * i + k) nan) (append-nil held)) ∙ flat-at boxNumbers 4 (λ _. refl) (run W 0 n) [] i k nan noBox r l
       ∙ ap (λ (b : Bounds). getD (boxNumbers b) k nan) (run-at W 0 n i noBox h ∙ ap W z)
 
-  box-held : (i : ℕ) → i < n → boxAt held i ≡ W i
+  pub box-held : (i : ℕ) → i < n → boxAt held i ≡ W i
   unfolding boxAt
   box-held i h =
       let z : 4 * i + 0 ≡ 4 * i = omega arith in
@@ -56,7 +56,7 @@ key-past : (g : ℕ → Float) (n i : ℕ) → n ≤ i → keyIn (run g 0 n) i �
 key-past g n i h = List·getD-eq-default (run g 0 n) nan (rw (length-run g 0 n) h)
 
 no-centre : centreOf noBox ≡ record { x = nan; y = nan }
-unfolding centreOf middle
+unfolding centreOf add mul
 no-centre = refl
 
 module _ (v : List Float) (whole : length v % 4 ≡ 0) where

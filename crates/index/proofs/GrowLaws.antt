@@ -1,34 +1,53 @@
 -- What building over a whole list leaves, and what a list that passes the tests has. Assumes nothing.
-use mathlib.Core.Path.{_≡_, refl, ap, _∙_}
+use mathlib.Core.Path.{_≡_, refl, sym, ap, subst, _∙_}
 use mathlib.Core.Bool.{Bool, true, false, not, cond, _||_, true≢false}
-use mathlib.Core.List.{List, _++_}
-use Prim.Native.Nat.{ℕ, _+_, _-_, _*_, _%_, _≤_}
+use mathlib.Core.List.{List, [], _∷_, _++_}
+use Prim.Native.Nat.{ℕ, zero, suc, _+_, _-_, _*_, _%_, _≤_}
 use native.Mathlib.Nat.{sub-zero}
 use native.Mathlib.Omega.{arith}
-use lib.Dec.{eqb, ltb}
+use lib.Dec.{leb, eqb, ltb}
 use lib.ListN.{length, take, drop}
 use lib.Seq.{length-take-le, take-at, drop-at, sets}
 use lib.Ieee.{Float}
-use borrow.Author.Tests.{ltb-false, eqb-true}
+use borrow.Author.Tests.{le-leb, ltb-false, eqb-true}
 use Rattle.boundary.specs.declared.Bounds.{Bounds}
+use Rattle.sorts.specs.Sort.{sort, Each, Sorted}
+use Rattle.sorts.proofs.PartLaws.{sort-sorted}
 use Rattle.boundary.specs.Folds.{run, any}
 use Rattle.geometry.specs.declared.Refusal.{Refusal}
 use Rattle.geometry.specs.declared.Refusal.the-variants.{TooMany, BadBox}
-use Rattle.geometry.specs.Making.{atFront}
+use Rattle.geometry.specs.Lists.{atFront}
 use Rattle.index.specs.declared.Test.{Test}
 use Rattle.index.specs.declared.Test.the-variants.{Passed, Failed}
 use Rattle.index.specs.Entries.{boxCount, boxNumbers, flat, boxesOf, wideAt, centreOf}
-use Rattle.index.specs.Tree.{treeIn, indexOf, itemsOf}
-use Rattle.index.specs.Layout.{extra, nodesOf, cornersOf, linksOf, Grown}
-use Rattle.index.specs.Answers.{boxFits, boxesTested, cellTested, roomTested, shortIndex, buildTested, Stored, Accepted}
+use Rattle.index.specs.Tree.{Tree, leaf, hullOf, treeIn, indexOf, itemsOf}
+use Rattle.index.specs.Layout.{extra, nodeOf, below, nodesOf, cornersOf, linksOf, Grown}
+use Rattle.boundary.specs.Boxes.{boxFits}
+use Rattle.index.specs.Answers.{boxesTested, cellTested, roomTested, shortIndex, buildTested, Stored, Accepted}
 use Rattle.index.proofs.StoreLaws.{length-run, sets-front, flat-length}
 use Rattle.index.proofs.EntryLaws.{wide-held, centres-held}
-use Rattle.index.proofs.TreeLaws.{length-items, nodes-suffice}
+use Rattle.index.proofs.TreeLaws.{tree-leaf, length-items, nodes-suffice}
 use Rattle.index.proofs.LayoutLaws.{length-below, placed-front}
 
 -- the first k of a list that begins with F
-front-of : {A : Type 0} (s₀ s F : List A) (k : ℕ) → s ≡ sets s₀ 0 F → length F ≡ k → k ≤ length s₀ → take (k - 0) (drop 0 s) ≡ F
+pub front-of : {A : Type 0} (s₀ s F : List A) (k : ℕ) → s ≡ sets s₀ 0 F → length F ≡ k → k ≤ length s₀ → take (k - 0) (drop 0 s) ≡ F
 front-of s₀ s F k e l h = rw (e, sets-front s₀ F (omega arith), sub-zero k) (take-at F (drop (length F) s₀) k l)
+
+-- numbers from j on ascend
+pub run-ascends : (j k : ℕ) → Sorted leb (run (λ i. i) j k)
+unfolding Sorted Each run
+run-ascends j zero = tt
+run-ascends j (suc k) = (above (suc j) k (omega arith), run-ascends (suc j) k)
+  where
+    above : (i k : ℕ) → j ≤ i → Each (λ y. leb j y ≡ true) (run (λ i. i) i k)
+    above i zero h = tt
+    above i (suc k) h = (le-leb j i h, above (suc i) k (omega arith))
+
+pub numbers-ascend : (is₀ is₁ : List ℕ) (n : ℕ) → n ≤ length is₀ → is₁ ≡ run (λ i. i) 0 (length (take n is₀)) → Sorted leb (take n (is₁ ++ drop n is₀))
+numbers-ascend is₀ is₁ n h e =
+    let k = length-take-le n is₀ h in
+    let m : length is₁ ≡ n = ap length e ∙ length-run (λ i. i) 0 (length (take n is₀)) ∙ k in
+    rw (take-at is₁ (drop n is₀) n m, e) (run-ascends 0 (length (take n is₀)))
 
 module _ (v : List Float) where
   abbrev n : ℕ
@@ -78,6 +97,26 @@ module _ (v : List Float) where
           items = rw (drop-at is₁ (drop n is₀) n m, t .items, length-index-items);
         }
 
+-- a leaf, put
+leaf-put : (b : Bounds) (is : List ℕ) (C C′ : List Float) (L L′ I I′ : List ℕ) → 4 ≤ length C → 2 ≤ length L → C′ ≡ sets C 0 (boxNumbers b) → L′ ≡ sets L 0 (0 ∷ length is ∷ []) → I′ ≡ is ++ drop (length is) I
+    → Stored (leaf b is) C L I 1 C′ L′ I′
+unfolding atFront nodesOf nodeOf below itemsOf flat
+leaf-put b is C C′ L L′ I I′ c l ec el ei = record { nodes = refl; corners = ec ∙ sets-front C (boxNumbers b) c; links = el ∙ sets-front L (0 ∷ length is ∷ []) l; items = ei }
+
+-- four boxes at most are one leaf
+pub leaf-stored : (v C C′ : List Float) (L L′ is₀ is₁ : List ℕ) → boxCount v ≤ 4 → 2044 ≤ length C → 1022 ≤ length L → 1024 ≤ length is₀
+    → C′ ≡ sets C 0 (boxNumbers (hullOf (wideAt v) (run (λ i. i) 0 (boxCount v)))) → L′ ≡ sets L 0 (0 ∷ boxCount v ∷ []) → is₁ ≡ run (λ i. i) 0 (length (take (boxCount v) is₀))
+    → Stored (indexOf v) C L is₀ 1 C′ L′ (is₁ ++ drop (boxCount v) is₀)
+unfolding indexOf
+leaf-stored v C C′ L L′ is₀ is₁ h c l i ec el ei =
+    let N = run (λ i. i) 0 (boxCount v) in
+    let n : length N ≡ boxCount v = length-run (λ i. i) 0 (boxCount v) in
+    let s : sort leb N ≡ N = sort-sorted leb N (run-ascends 0 (boxCount v)) in
+    let k : length (sort leb N) ≡ boxCount v = ap length s ∙ n in
+    let f : is₁ ≡ sort leb N = ei ∙ ap (run (λ i. i) 0) (length-take-le (boxCount v) is₀ (omega arith)) ∙ sym s in
+    subst (λ (t : Tree). Stored t C L is₀ 1 C′ L′ (is₁ ++ drop (boxCount v) is₀)) (sym (tree-leaf (wideAt v) (λ i. centreOf (wideAt v i)) (length N) N (omega arith)))
+    (leaf-put (hullOf (wideAt v) N) (sort leb N) C C′ L L′ is₀ (is₁ ++ drop (boxCount v) is₀) (omega arith) (omega arith) ec (rw k el) (rw (k, f)))
+
 -- ---- what a list that passes the tests has
 pub or-none : (a b : Bool) → (a || b) ≡ false → (a ≡ false) × (b ≡ false)
 or-none true b e = absurd (true≢false e)
@@ -87,7 +126,7 @@ abbrev failed : Test → Bool
 failed Passed = false
 failed (Failed r) = true
 
-never : {r : Refusal} → Failed r ≡ Passed → ⊥
+pub never : {r : Refusal} → Failed r ≡ Passed → ⊥
 never e = true≢false (ap failed e)
 
 pub room-passed : (s : Bool) (t : Test) → roomTested s t ≡ Passed → (s ≡ false) × (t ≡ Passed)

@@ -4,7 +4,7 @@ use mathlib.Core.Bool.{Bool, true, false, not, cond}
 use mathlib.Core.List.{List, [], _∷_}
 use Prim.Native.Nat.{ℕ, _+_, _<_}
 use native.Mathlib.Omega.{arith}
-use lib.Dec.{T, eqb}
+use lib.Dec.{T, leb, eqb}
 use lib.Ieee.{Float, nan, inf, fin, binary64, mul, neg, lt, le, isNan}
 use lib.Ieee.Fits.{and-l, and-r}
 use lib.Ieee.Scale.{finite}
@@ -18,9 +18,10 @@ use Rattle.boundary.specs.Folds.{fold}
 use Rattle.boundary.specs.Line.{one}
 use Rattle.boundary.proofs.AlongLaws.{ends-between, one-of}
 use Rattle.geometry.specs.Polygon.{nowhere}
-use Rattle.sorts.specs.Sort.{times, In}
+use Rattle.sorts.specs.Sort.{sort, times, In}
+use Rattle.sorts.proofs.SortLaws.{times-sort}
 use Rattle.index.specs.Tree.{hull, hullOf}
-use Rattle.index.specs.Answers.{boxFits}
+use Rattle.boundary.specs.Boxes.{boxFits}
 
 -- ---- boxes without NaN
 abbrev pub Number : Float → Type 0
@@ -161,12 +162,12 @@ module _ (W : ℕ → Bounds) where
   module _ (is : List ℕ) (N : (i : ℕ) → In i is → NumberBox (W i)) where
     pub hull-of-number : NumberBox (hullOf W is)
     unfolding hullOf
-    hull-of-number = folded is nowhere nowhere-number N .number
+    hull-of-number = folded (sort leb is) nowhere nowhere-number (λ i h. N i (rw (times-sort leb i is) at h)) .number
 
     -- it is around each
     pub hull-of-around : (i : ℕ) → In i is → Around (hullOf W is) (W i)
     unfolding hullOf
-    hull-of-around = folded is nowhere nowhere-number N .each
+    hull-of-around i h = folded (sort leb is) nowhere nowhere-number (λ i h. N i (rw (times-sort leb i is) at h)) .each i (rw (times-sort leb i is) h)
 
   fold-within : (n : Bounds) (is : List ℕ) (b : Bounds) → Around n b → ((i : ℕ) → In i is → Around n (W i)) → Around n (fold step b is)
   unfolding fold
@@ -176,4 +177,4 @@ module _ (W : ℕ → Bounds) where
   -- what is around each is around it
   pub hull-of-within : (n : Bounds) → NumberBox n → (is : List ℕ) → ((i : ℕ) → In i is → Around n (W i)) → Around n (hullOf W is)
   unfolding hullOf
-  hull-of-within n N is q = fold-within n is nowhere (around-nowhere n N) q
+  hull-of-within n N is q = fold-within n (sort leb is) nowhere (around-nowhere n N) (λ i h. q i (rw (times-sort leb i is) at h))

@@ -7,7 +7,7 @@ use native.Mathlib.Omega.{arith}
 use lib.ListN.{length, length-append}
 use lib.Seq.{sets}
 use Rattle.boundary.specs.declared.Bounds.{Bounds}
-use Rattle.geometry.specs.Making.{atFront}
+use Rattle.geometry.specs.Lists.{atFront}
 use Rattle.index.specs.declared.Node.{Node}
 use Rattle.index.specs.Entries.{flat}
 use Rattle.index.specs.Tree.{Tree, leaf, inner, itemsOf}

@@ -10,6 +10,8 @@ pub mod LayoutLaws
 pub mod BuildLaws
 -- The lists of widened boxes and of centres.
 pub mod EntryLaws
+-- The larger of a number and a magnitude.
+pub mod ScaleLaws
 -- What building over a whole list leaves.
 pub mod GrowLaws
 -- The box around boxes.

@@ -11,7 +11,7 @@ use lib.Ieee.{Float, nan}
 use Rattle.boundary.specs.declared.Point.{Point}
 use Rattle.boundary.specs.declared.Bounds.{Bounds}
 use Rattle.boundary.specs.Folds.{run}
-use Rattle.geometry.specs.Making.{atFront}
+use Rattle.geometry.specs.Lists.{atFront}
 use Rattle.sorts.proofs.SortLaws.{length-sort}
 use Rattle.index.specs.declared.Node.{Node}
 use Rattle.index.specs.Entries.{boxAt, flat}
@@ -91,7 +91,7 @@ module _ (B : List Float) (L I : List ℕ) where
 -- ---- what the build leaves
 module _ (N : List Node) (RB : List Float) (RL : List ℕ) (e : Node) where
   -- the node j of the list N
-  node-is : (I : List ℕ) (j : ℕ) → j < length N → NodeIs (flat cornersOf N ++ RB) (flat linksOf N ++ RL) I j (getD N j e)
+  pub node-is : (I : List ℕ) (j : ℕ) → j < length N → NodeIs (flat cornersOf N ++ RB) (flat linksOf N ++ RL) I j (getD N j e)
   unfolding boxAt
   node-is I j h =
       let four : 4 * j + 0 ≡ 4 * j = omega arith in

@@ -18,7 +18,8 @@ use Rattle.index.specs.declared.Test.the-variants.{Passed}
 use Rattle.index.specs.Entries.{boxCount, boxAt, boxesOf, wideAt, centreOf}
 use Rattle.index.specs.Tree.{Tree, leaf, inner, hullOf, treeOf, indexOf, itemsOf, EachNode}
 use Rattle.index.specs.Layout.{nodesOf}
-use Rattle.index.specs.Answers.{boxFits, boxesTested}
+use Rattle.boundary.specs.Boxes.{boxFits}
+use Rattle.index.specs.Answers.{boxesTested}
 use Rattle.index.proofs.TreeLaws.{left, right, times-halves, tree-induct}
 use Rattle.index.proofs.StoreLaws.{length-run}
 use Rattle.index.proofs.ReadLaws.{Deep, tree-deep}

@@ -15,7 +15,8 @@ use Rattle.boundary.specs.declared.Bounds.{Bounds}
 use Rattle.sorts.specs.Sort.{sort, times}
 use Rattle.sorts.specs.Keys.{goes}
 use Rattle.sorts.proofs.SortLaws.{length-sort, times-sort, times-parts}
-use Rattle.index.specs.Tree.{Tree, leaf, inner, hullOf, alongY, along, ordered, treeOn, treeOf, itemsOf}
+use Rattle.sorts.proofs.PartLaws.{ascend-again, goes-again}
+use Rattle.index.specs.Tree.{Tree, leaf, inner, hullOf, spreadOf, alongY, along, ordered, treeOn, treeOf, itemsOf}
 use Rattle.index.specs.Layout.{extra, nodesOf}
 use Rattle.index.proofs.LayoutLaws.{length-below}
 
@@ -76,6 +77,32 @@ module _ (W : ℕ → Bounds) (C : ℕ → Point) where
       let b = length-right C is in
       tree-same (length is) (suc (length is)) is (omega arith) (omega arith) ∙ tree-inner (length is) is n
       ∙ rw (tree-same (length is) (length (left C is)) (left C is) (omega arith) (omega arith), tree-same (length is) (length (right C is)) (right C is) (omega arith) (omega arith))
+
+  -- the order in which the items stand does not matter
+  hull-sorted : (g : ℕ → ℕ → Bool) (is : List ℕ) → hullOf W (sort g is) ≡ hullOf W is
+  unfolding hullOf
+  hull-sorted g is = rw (ascend-again g is)
+
+  along-sorted : (g : ℕ → ℕ → Bool) (is : List ℕ) → alongY C (sort g is) ≡ alongY C is
+  unfolding alongY spreadOf
+  along-sorted g is = rw (ascend-again g is)
+
+  ordered-sorted : (g : ℕ → ℕ → Bool) (is : List ℕ) → ordered C (sort g is) ≡ ordered C is
+  unfolding ordered
+  ordered-sorted g is = rw (along-sorted g is) (goes-again (along (alongY C is) C) g is)
+
+  pub tree-sorted : (g : ℕ → ℕ → Bool) (is : List ℕ) → treeOf W C (sort g is) ≡ treeOf W C is
+  tree-sorted g is = go (ltb 4 (length is)) refl
+    where
+      go : (b : Bool) → ltb 4 (length is) ≡ b → treeOf W C (sort g is) ≡ treeOf W C is
+      go false e =
+          let s : length is ≤ 4 = ltb-false 4 (length is) e in
+          let n = length-sort g is in
+          tree-leaf (length (sort g is)) (sort g is) (omega arith) ∙ rw (tree-leaf (length is) is s, hull-sorted g is, ascend-again g is)
+      go true e =
+          let s : 4 < length is = ltb-true 4 (length is) e in
+          let n = length-sort g is in
+          tree-split (sort g is) (omega arith) ∙ rw (tree-split is s, hull-sorted g is, n, ordered-sorted g is)
 
   -- ---- how many items and nodes there are
   -- what holds of every leaf, and of an inner tree where it holds of both halves

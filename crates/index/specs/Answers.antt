@@ -1,29 +1,24 @@
 -- The tests of a box list and of a cell, in document 01's order, and what building answers. Definitions only.
 use mathlib.Core.Path.{_≡_}
-use mathlib.Core.Bool.{Bool, not, cond, _&&_, _||_}
+use mathlib.Core.Bool.{Bool, not, cond, _||_}
 use mathlib.Core.List.{List}
 use Prim.Native.Nat.{ℕ, _%_, _≤_}
 use lib.Dec.{eqb, ltb}
 use lib.ListN.{length}
-use lib.Ieee.{Float, neg, le}
+use lib.Ieee.{Float}
 use Rattle.boundary.specs.declared.Bounds.{Bounds}
-use Rattle.boundary.specs.Boxes.{inField}
+use Rattle.boundary.specs.Boxes.{boxFits}
 use Rattle.boundary.specs.Folds.{any}
 use Rattle.geometry.specs.declared.Refusal.the-variants.{TooMany, BadBox, ShortBuffer}
-use Rattle.geometry.specs.Making.{atFront}
+use Rattle.geometry.specs.Lists.{atFront}
 use Rattle.geometry.specs.Refusals.{number}
 use Rattle.index.specs.declared.Test.{Test}
 use Rattle.index.specs.declared.Test.the-variants.{Passed, Failed}
 use Rattle.index.specs.declared.Built.{Built}
 use Rattle.index.specs.declared.Built.the-variants.{Refused, Sized}
 use Rattle.index.specs.Entries.{boxesOf, flat}
-use Rattle.index.specs.Tree.{Tree, itemsOf}
+use Rattle.index.specs.Tree.{Tree, indexOf, itemsOf}
 use Rattle.index.specs.Layout.{nodesOf, cornersOf, linksOf}
-
--- a box of the field, no minimum above its maximum
-unfoldable pub boxFits : Bounds → Bool
-unfolding neg le
-boxFits b = inField (b .min .x) && (inField (b .min .y) && (inField (b .max .x) && (inField (b .max .y) && (le (b .min .x) (b .max .x) && le (b .min .y) (b .max .y)))))
 
 -- ---- tests 4 and 11 of a box list, 11 of a cell, and 13
 unfoldable pub boxesTested : List Float → Test
@@ -61,6 +56,25 @@ unfoldable pub writtenFor : {A : Type 0} → List A → List A → Test → List
 unfolding atFront
 writtenFor xs s Passed = atFront xs s
 writtenFor xs s (Failed r) = s
+
+-- ---- building, by what the call is lent: the boxes, and the lists for corners, links and items
+-- what it answers
+unfoldable pub buildAnswer : List Float → List Float → List ℕ → List ℕ → Built
+unfolding builtFor buildTested
+buildAnswer v C L I = builtFor (indexOf v) (buildTested v (length C) (length L) (length I))
+
+-- what it leaves in the lists: all nodes' corners, all nodes' links, and the items
+unfoldable pub builtCorners : List Float → List Float → List ℕ → List ℕ → List Float
+unfolding writtenFor buildTested
+builtCorners v C L I = writtenFor (flat cornersOf (nodesOf (indexOf v))) C (buildTested v (length C) (length L) (length I))
+
+unfoldable pub builtLinks : List Float → List Float → List ℕ → List ℕ → List ℕ
+unfolding writtenFor buildTested
+builtLinks v C L I = writtenFor (flat linksOf (nodesOf (indexOf v))) L (buildTested v (length C) (length L) (length I))
+
+unfoldable pub builtItems : List Float → List Float → List ℕ → List ℕ → List ℕ
+unfolding writtenFor buildTested
+builtItems v C L I = writtenFor (itemsOf (indexOf v)) I (buildTested v (length C) (length L) (length I))
 
 -- what the call returns and puts into its answer fields: a refusal gives its number, and zeros
 abbrev pub builtNumber : Built → ℕ

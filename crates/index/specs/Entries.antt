@@ -1,13 +1,12 @@
 -- The boxes of a list, and their centres (document 01, index.rs). Definitions only.
-use mathlib.Core.Bool.{false}
 use mathlib.Core.List.{List, [], _∷_, _++_}
 use Prim.Native.Nat.{ℕ, _+_, _*_, _/_}
-use lib.IntN.{negsuc}
 use lib.ListN.{length, getD}
-use lib.Ieee.{Float, nan, fin, binary64, add, mul}
+use lib.Ieee.{Float, nan, add, mul}
 use Rattle.boundary.specs.declared.Point.{Point}
 use Rattle.boundary.specs.declared.Bounds.{Bounds}
 use Rattle.boundary.specs.Boxes.{widenedOf}
+use Rattle.boundary.specs.Ellipse.{middle}
 use Rattle.boundary.specs.Folds.{run}
 use Rattle.sorts.specs.Keys.{keyIn}
 
@@ -40,17 +39,9 @@ boxesOf v = run (boxAt v) 0 (boxCount v)
 unfoldable pub wideAt : List Float → ℕ → Bounds
 wideAt v i = widenedOf (boxAt v i)
 
-abbrev pub half : Float
-half = fin false 1 (negsuc 0)
-
--- half the sum of lo and hi
-unfoldable pub middle : Float → Float → Float
-unfolding add mul
-middle lo hi = mul binary64 half (add binary64 lo hi)
-
 -- a box's centre
 unfoldable pub centreOf : Bounds → Point
-unfolding middle
+unfolding add mul
 centreOf b = record { x = middle (b .min .x) (b .max .x); y = middle (b .min .y) (b .max .y) }
 
 -- point i of those whose coordinates stand in two lists

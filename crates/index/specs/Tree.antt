@@ -11,7 +11,7 @@ use Rattle.boundary.specs.Boxes.{lesser, greater}
 use Rattle.boundary.specs.Folds.{run, fold}
 use Rattle.geometry.specs.Polygon.{nowhere, stretched}
 use Rattle.sorts.specs.Keys.{goes}
-use Rattle.sorts.specs.Sort.{sort}
+use Rattle.sorts.specs.Sort.{sort, halves}
 use Rattle.index.specs.Entries.{boxCount, boxAt, wideAt, centreOf, pointIn}
 
 -- a leaf with its box and its items, or a box with two children
@@ -27,15 +27,15 @@ hull a b = record {
   max = record { x = greater (a .max .x) (b .max .x); y = greater (a .max .y) (b .max .y) };
 }
 
--- the box around the items' boxes
+-- the box around the items' boxes, which are taken in the order of their numbers
 unfoldable pub hullOf : (ℕ → Bounds) → List ℕ → Bounds
-unfolding fold hull
-hullOf W is = fold (λ b i. hull b (W i)) nowhere is
+unfolding fold hull sort
+hullOf W is = fold (λ b i. hull b (W i)) nowhere (sort leb is)
 
--- the box of the items' centres
+-- the box of the items' centres, taken in the same order
 unfoldable pub spreadOf : (ℕ → Point) → List ℕ → Bounds
-unfolding fold stretched
-spreadOf C is = fold (λ b i. stretched b (C i)) nowhere is
+unfolding fold stretched sort
+spreadOf C is = fold (λ b i. stretched b (C i)) nowhere (sort leb is)
 
 -- whether the centres spread wider along y; x on a tie
 unfoldable pub alongY : (ℕ → Point) → List ℕ → Bool
@@ -51,10 +51,10 @@ unfoldable pub ordered : (ℕ → Point) → List ℕ → List ℕ
 unfolding alongY sort
 ordered C is = sort (goes (along (alongY C is) C)) is
 
--- the items of a leaf ascend by number; more than four are ordered by centre, to be split
+-- the items of a leaf ascend by number; more than four are split, and each half's ascend
 unfoldable pub arranged : (ℕ → Point) → List ℕ → List ℕ
-unfolding ordered sort
-arranged C is = cond (ltb 4 (length is)) (ordered C is) (sort leb is)
+unfolding alongY halves sort
+arranged C is = cond (ltb 4 (length is)) (halves (goes (along (alongY C is) C)) (length is / 2) is) (sort leb is)
 
 -- more than four items are split at half the count, rounded down; a leaf's items ascend by number. As many splits as f follow one another at most
 unfoldable pub treeOn : ℕ → (ℕ → Bounds) → (ℕ → Point) → List ℕ → Tree

@@ -1,14 +1,18 @@
 // The boxes of a list, widened, and their centres.
 ghost use mathlib.Core.Path.{_≡_};
 ghost use Prim.Native.Nat.{_*_, _≤_, _<_, _^_};
-ghost use lib.Ieee.{nan};
+ghost use lib.Dec.{T};
+ghost use lib.Ieee.{nan, le};
 ghost use lib.ListN.{length, getD, set};
 ghost use lib.Seq.{sets};
+ghost use Rattle.number.specs.Signs.{absOf, maxOf};
+ghost use Rattle.boundary.specs.Line.{one};
 ghost use Rattle.boundary.specs.Boxes.{scaleOf, widenedOf};
 ghost use Rattle.boundary.specs.Folds.{run};
-ghost use Rattle.index.specs.Entries.{boxCount, boxAt, boxNumbers, flat, wideAt, middle, centreOf};
+ghost use Rattle.index.specs.Entries.{boxCount, boxAt, boxNumbers, flat, wideAt, centreOf};
 use boundary::Bounds;
 use boundary::Point;
+use boundary::ellipse::middle_of;
 
 // The number at i, NaN past the end.
 pub fn number_at(v: &[f64], i: usize) -> f64
@@ -56,14 +60,23 @@ pub fn put_box(v: &mut [f64], i: usize, b: Bounds)
     put_number(v, k + 3, b.max.y);
 }
 
+// The larger of s, which is 1 at least, and the magnitude of y.
+fn larger(s: f64, y: f64) -> f64
+    requires { ⌜ T (le one s) ⌝ }
+    ensures { λ r. ⌜ (r ≡ maxOf s (absOf y)) × T (le one r) ⌝ }
+{
+    let m = number::signs::pick(y < 0.0, -y, y);
+    number::signs::pick(s <= m, m, s)
+}
+
 // The largest of 1 and the corners' magnitudes.
 fn scale(b: Bounds) -> f64
     ensures { λ r. ⌜ r ≡ scaleOf b ⌝ }
 {
-    let left = number::signs::max(1.0, number::signs::abs(b.min.x));
-    let bottom = number::signs::max(left, number::signs::abs(b.min.y));
-    let right = number::signs::max(bottom, number::signs::abs(b.max.x));
-    number::signs::max(right, number::signs::abs(b.max.y))
+    let left = larger(1.0, b.min.x);
+    let bottom = larger(left, b.min.y);
+    let right = larger(bottom, b.max.x);
+    larger(right, b.max.y)
 }
 
 // The box, widened by a hair.
@@ -81,12 +94,6 @@ pub fn widened(b: Bounds) -> Bounds
             y: b.max.y + m,
         },
     }
-}
-
-fn middle_of(lo: f64, hi: f64) -> f64
-    ensures { λ r. ⌜ r ≡ middle lo hi ⌝ }
-{
-    0.5 * (lo + hi)
 }
 
 pub fn centre(b: Bounds) -> Point

@@ -4,11 +4,7 @@ pub mod refusals;
 pub mod tree;
 
 ghost use mathlib.Core.Path.{_≡_};
-ghost use lib.ListN.{length};
-ghost use Rattle.index.specs.Entries.{flat};
-ghost use Rattle.index.specs.Tree.{indexOf, itemsOf};
-ghost use Rattle.index.specs.Layout.{nodesOf, cornersOf, linksOf};
-ghost use Rattle.index.specs.Answers.{buildTested, builtFor, writtenFor};
+ghost use Rattle.index.specs.Answers.{buildAnswer, builtCorners, builtLinks, builtItems};
 use boundary::Point;
 use geometry::Refusal;
 
@@ -36,10 +32,10 @@ pub enum Built {
 
 // The index of a list of boxes, in lent buffers.
 pub fn new(boxes: &[f64], corners: &mut [f64], links: &mut [u32], items: &mut [u32]) -> Built
-    ensures { λ r. ⌜ (r ≡ builtFor (indexOf (now (boxes .entry))) (buildTested (now (boxes .entry)) (length (now (corners .entry))) (length (now (links .entry))) (length (now (items .entry)))))
-        × (now (corners .exit) ≡ writtenFor (flat cornersOf (nodesOf (indexOf (now (boxes .entry))))) (now (corners .entry)) (buildTested (now (boxes .entry)) (length (now (corners .entry))) (length (now (links .entry))) (length (now (items .entry)))))
-        × (now (links .exit) ≡ writtenFor (flat linksOf (nodesOf (indexOf (now (boxes .entry))))) (now (links .entry)) (buildTested (now (boxes .entry)) (length (now (corners .entry))) (length (now (links .entry))) (length (now (items .entry)))))
-        × (now (items .exit) ≡ writtenFor (itemsOf (indexOf (now (boxes .entry)))) (now (items .entry)) (buildTested (now (boxes .entry)) (length (now (corners .entry))) (length (now (links .entry))) (length (now (items .entry))))) ⌝ }
+    ensures { λ r. ⌜ (r ≡ buildAnswer (now (boxes .entry)) (now (corners .entry)) (now (links .entry)) (now (items .entry)))
+        × (now (corners .exit) ≡ builtCorners (now (boxes .entry)) (now (corners .entry)) (now (links .entry)) (now (items .entry)))
+        × (now (links .exit) ≡ builtLinks (now (boxes .entry)) (now (corners .entry)) (now (links .entry)) (now (items .entry)))
+        × (now (items .exit) ≡ builtItems (now (boxes .entry)) (now (corners .entry)) (now (links .entry)) (now (items .entry))) ⌝ }
 {
     let t = refusals::build_tested(boxes, corners.len(), links.len(), items.len());
     match t {

@@ -4,24 +4,16 @@ ghost use mathlib.Core.Bool.{not};
 ghost use Prim.Native.Nat.{_≤_};
 ghost use Rattle.boundary.specs.Folds.{any};
 ghost use Rattle.index.specs.Entries.{boxCount, boxesOf};
-ghost use Rattle.index.specs.Answers.{boxFits, boxesTested, cellTested, roomTested, shortIndex, buildTested, builtNumber, nodesIn, itemsIn};
+ghost use Rattle.boundary.specs.Boxes.{boxFits};
+ghost use Rattle.index.specs.Answers.{boxesTested, cellTested, roomTested, shortIndex, buildTested, builtNumber, nodesIn, itemsIn};
 use crate::Built;
 use crate::Test;
 use crate::entries;
 use boundary::Bounds;
 use geometry::Refusal;
-use geometry::refusals::in_field;
+use geometry::refusals::box_fits;
 
-// Whether a box is in the field, and no minimum is above its maximum.
-fn box_fits(b: Bounds) -> bool
-    ensures { λ r. ⌜ r ≡ boxFits b ⌝ }
-{
-    let upper = in_field(b.max.x)
-        & (in_field(b.max.y) & ((b.min.x <= b.max.x) & (b.min.y <= b.max.y)));
-    in_field(b.min.x) & (in_field(b.min.y) & upper)
-}
-
-// Whether a box of the list does not pass that.
+// Whether a box of the list is not one of the field, or has a minimum above its maximum.
 fn any_unfit(boxes: &[f64]) -> bool
     requires { ⌜ boxCount (now boxes) ≤ 1024 ⌝ }
     ensures { λ r. ⌜ r ≡ any (λ b. not (boxFits b)) (boxesOf (now (boxes .entry))) ⌝ }

@@ -5,7 +5,7 @@ use mathlib.Core.List.{List, [], _∷_, _++_}
 use Prim.Native.Nat.{ℕ, zero, suc, _+_, _-_, _≤_, _<_}
 use native.Mathlib.Omega.{arith}
 use lib.Dec.{T, eqb, ltb}
-use lib.ListN.{length, drop, length-append}
+use lib.ListN.{length, drop, length-append, length-replicate}
 use lib.Seq.{drop-append-add, drop-drop}
 use lib.Ieee.{Float, lt, le}
 use borrow.Author.Tests.{eqb-true, eqb-false, ltb-false}
@@ -14,7 +14,7 @@ use lib.Ieee.Bits.{is-true}
 use Rattle.number.proofs.OrderLaws.{below-through, through-below}
 use Rattle.boundary.specs.declared.Bounds.{Bounds}
 use Rattle.boundary.specs.Boxes.{Around}
-use Rattle.geometry.specs.Making.{atFront}
+use Rattle.geometry.specs.Lists.{atFront, zeros}
 use Rattle.index.specs.declared.Test.the-variants.{Passed}
 use Rattle.index.specs.Entries.{boxAt, flat}
 use Rattle.index.specs.Tree.{Tree, leaf, inner, indexOf, itemsOf}
@@ -26,7 +26,7 @@ use Rattle.index.proofs.ReadLaws.{Holds, holds-first, holds-second, stored-hold
 use Rattle.index.proofs.Theorems.{rootBox, Nested, nested, index-deep}
 use Rattle.meeting.specs.Meeting.{apart, meetingOf, visitedOf}
 use Rattle.meeting.specs.Walk.{hits, found, Put}
-use Rattle.meeting.specs.Answers.{meetingTested, zeros, Listed}
+use Rattle.meeting.specs.Answers.{meetingTested, Listed}
 use Rattle.meeting.proofs.WalkLaws.{hits-apart, hits-leaf, hits-inner}
 
 -- ---- leaf boxes alone decide
@@ -137,7 +137,7 @@ no-items [] h = refl
 no-items (x ∷ xs) h = absurd (omega arith)
 
 -- the front is written twice: the longer list stays
-front-front : {A : Type 0} (zs xs s : List A) → length xs ≤ length zs → length zs ≤ length s → atFront zs (atFront xs s) ≡ atFront zs s
+pub front-front : {A : Type 0} (zs xs s : List A) → length xs ≤ length zs → length zs ≤ length s → atFront zs (atFront xs s) ≡ atFront zs s
 unfolding atFront
 front-front zs xs s h l =
     let k : length zs ≡ length xs + (length zs - length xs) = omega arith in
@@ -181,9 +181,9 @@ module _ (v : List Float) (c : Bounds) (passed : boxesTested v ≡ Passed) (C : 
       let links = flat-length linksOf 2 (λ _. refl) (nodesOf t) in
       let q : Put S 0 (meetingOf c t) S′ r = rw same at p in
       let place = q .place in
-      let zC = length-run (λ _. zeroᶠ) 0 2044 in
-      let zL = length-run {A = ℕ} (λ _. 0) 0 1022 in
-      let zi = length-run {A = ℕ} (λ _. 0) 0 1024 in
+      let zC = length-replicate 2044 zeroᶠ in
+      let zL = length-replicate {A = ℕ} 1022 0 in
+      let zi = length-replicate {A = ℕ} 1024 0 in
       let aC = A .corners in
       let aL = A .links in
       let ai = A .items in

@@ -13,13 +13,11 @@ use borrow.Author.Tests.{lt-ltb, le-ltb}
 use Rattle.boundary.specs.declared.Bounds.{Bounds}
 use Rattle.boundary.specs.Folds.{run}
 use Rattle.boundary.proofs.RunLaws.{run-last}
-use Rattle.geometry.specs.Making.{atFront}
 use Rattle.index.specs.Entries.{boxAt}
 use Rattle.index.specs.Layout.{itemAt, firstAt, countAt}
 use Rattle.index.proofs.StoreLaws.{length-run, sets-append, sets-front, sets-more}
 use Rattle.meeting.specs.Meeting.{apart}
 use Rattle.meeting.specs.Walk.{hits, Put}
-use Rattle.meeting.specs.Answers.{zeros}
 
 -- ---- stores past the end change nothing
 sets-out : (l : List ℕ) (i : ℕ) (vs : List ℕ) → length l ≤ i → sets l i vs ≡ l
@@ -56,32 +54,6 @@ next-item g f i l m n k j r x p e en er =
 
 pub same-run : (l m xs ys : List ℕ) (k r : ℕ) → xs ≡ ys → Put l k xs m r → Put l k ys m r
 same-run l m xs ys k r e p = rw e at p
-
--- ---- zeros in the first n places, one by one
-pub record Clearing {A : Type 0} (z : A) (s₀ : List A) (n : ℕ) (s : List A) (i : ℕ) : Type 0 where
-  pub within : i ≤ n
-  pub same : length s ≡ length s₀
-  pub zeroed : s ≡ sets s₀ 0 (zeros z i)
-
-module _ {A : Type 0} (z : A) (s₀ : List A) (n : ℕ) where
-  pub clearing-none : Clearing z s₀ n s₀ 0
-  unfolding run
-  clearing-none = record { within = omega arith; same = refl; zeroed = refl }
-
-  pub clearing-more : (s s′ : List A) (i : ℕ) → Clearing z s₀ n s i → i < n → s′ ≡ set s i z → Clearing z s₀ n s′ (i + 1)
-  clearing-more s s′ i c h e = record {
-    within = omega arith;
-    same = ap length e ∙ length-set s i z ∙ c .same;
-    zeroed = sets-more s₀ s s′ (λ _. z) i z (c .zeroed) refl e;
-  }
-
-  pub clearing-all : (s : List A) (i : ℕ) → n ≤ length s₀ → Clearing z s₀ n s i → n ≤ i → s ≡ atFront (zeros z n) s₀
-  unfolding atFront
-  clearing-all s i h c l =
-      let k = length-run (λ _. z) 0 n in
-      let w = c .within in
-      let e : i ≡ n = omega arith in
-      c .zeroed ∙ rw e (sets-front s₀ (zeros z n) (omega arith))
 
 -- ---- one level
 suc-of : (d : ℕ) → (d ≡ 0 → ⊥) → suc (d - 1) ≡ d

@@ -8,10 +8,9 @@ use lib.ListN.{length}
 use lib.Ieee.{Float}
 use Rattle.number.specs.Exact.{zeroᶠ}
 use Rattle.boundary.specs.declared.Bounds.{Bounds}
-use Rattle.boundary.specs.Folds.{run}
 use Rattle.geometry.specs.declared.Answer.{Answer}
 use Rattle.geometry.specs.declared.Answer.the-variants.{Refused, Told}
-use Rattle.geometry.specs.Making.{atFront}
+use Rattle.geometry.specs.Lists.{atFront, zeros}
 use Rattle.index.specs.declared.Test.{Test}
 use Rattle.index.specs.declared.Test.the-variants.{Passed, Failed}
 use Rattle.index.specs.Tree.{indexOf}
@@ -35,10 +34,6 @@ toldFor xs (Failed r) = Refused r
 unfoldable pub meetingAnswer : List Float → Bounds → ℕ → ℕ → ℕ → ℕ → Answer
 unfolding meetingTested toldFor meetingOf
 meetingAnswer v c corners links items list = toldFor (meetingOf c (indexOf v)) (meetingTested v c corners links items list)
-
--- n zeros
-abbrev pub zeros : {A : Type 0} → A → ℕ → List A
-zeros z n = run (λ _. z) 0 n
 
 -- what accepting a call leaves: the items at the front of the list, and zeros in the working buffers' 511 nodes and 1,024 items
 pub record Listed (v : List Float) (c : Bounds) (C : List Float) (L is S : List ℕ) (r : ℕ) (C′ : List Float) (L′ is′ S′ : List ℕ) : Type 0 where

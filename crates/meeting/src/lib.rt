@@ -4,7 +4,7 @@ ghost use Prim.Native.Nat.{_+_, _≤_, _<_, _^_, min};
 ghost use lib.ListN.{length, set};
 ghost use Rattle.number.specs.Exact.{zeroᶠ};
 ghost use Rattle.boundary.specs.Folds.{run};
-ghost use Rattle.geometry.specs.Making.{atFront};
+ghost use Rattle.geometry.specs.Lists.{zeros};
 ghost use Rattle.index.specs.declared.Test.the-variants.{Passed};
 ghost use Rattle.index.specs.Entries.{boxAt};
 ghost use Rattle.index.specs.Layout.{itemAt};
@@ -12,9 +12,10 @@ ghost use Rattle.index.specs.Tree.{indexOf};
 ghost use Rattle.index.specs.Answers.{boxesTested, writtenFor, Accepted};
 ghost use Rattle.meeting.specs.Meeting.{apart, meetingOf};
 ghost use Rattle.meeting.specs.Walk.{hits, found, Put};
-ghost use Rattle.meeting.specs.Answers.{meetingTested, meetingAnswer, zeros, Listed};
+ghost use Rattle.meeting.specs.Answers.{meetingTested, meetingAnswer, Listed};
 use boundary::Bounds;
 use geometry::Answer;
+use geometry::lists;
 use index::Test;
 use index::entries;
 use index::refusals;
@@ -81,30 +82,6 @@ fn visit(
     visit(corners, links, items, depth - 1, first + 1, c, list, j)
 }
 
-// Zeros in the first n places.
-fn clear_numbers(s: &mut [f64], n: usize)
-    requires { ⌜ n ≤ length (now s) ⌝ }
-    ensures { λ _. ⌜ now (s .exit) ≡ atFront (zeros zeroᶠ n) (now (s .entry)) ⌝ }
-{
-    let mut i = 0;
-    while i < n {
-        entries::put_number(s, i, 0.0);
-        i += 1;
-    }
-}
-
-// The same of whole numbers.
-fn clear_counts(s: &mut [u32], n: usize)
-    requires { ⌜ n ≤ length (now s) ⌝ }
-    ensures { λ _. ⌜ now (s .exit) ≡ atFront (zeros 0 n) (now (s .entry)) ⌝ }
-{
-    let mut i = 0;
-    while i < n {
-        sorts::put(s, i, 0);
-        i += 1;
-    }
-}
-
 // The walk from the root, nine levels deep at most, where there are boxes: n counts their numbers.
 fn walk(
     n: usize,
@@ -123,7 +100,7 @@ fn walk(
 }
 
 // Lists what meets the cell; the index is built in the lent buffers, and cleared.
-fn listed(
+pub fn listed(
     boxes: &[f64],
     c: Bounds,
     corners: &mut [f64],
@@ -138,9 +115,9 @@ fn listed(
 {
     index::tree::grow(boxes, corners, links, items);
     let count = walk(boxes.len(), corners, links, items, c, list);
-    clear_numbers(corners, 2044);
-    clear_counts(links, 1022);
-    clear_counts(items, 1024);
+    lists::clear_numbers(corners, 2044);
+    lists::clear_counts(links, 1022);
+    lists::clear_counts(items, 1024);
     count
 }
 

@@ -3,8 +3,7 @@ use Prim.Native.Nat.{ℕ, _≤_}
 use mathlib.Core.Path.{_≡_}
 use mathlib.Core.List.{List}
 use lib.ListN.{length, take}
-use lib.Ieee.{Float}
 
--- n counts floats at the start of xs. The second part follows from the first; both are stated so that the proof that Rattle makes of `&list[..n]` finds them.
-abbrev pub Counts : ℕ → List Float → Type 0
+-- n counts members at the start of xs. The second part follows from the first; both are stated so that the proof that Rattle makes of `&list[..n]` finds them.
+abbrev pub Counts : {A : Type 0} → ℕ → List A → Type 0
 Counts n xs = (n ≤ length xs) × (n ≡ length (take n xs))

@@ -3,9 +3,11 @@
 // call is an operation's name and its arguments, floats as their bits in hexadecimal, a list as its
 // length and its floats.
 mod floats;
+mod indexes;
 mod numbers;
 mod outlines;
 mod read;
+mod sets;
 
 use read::Reader;
 

@@ -4,8 +4,10 @@
 ghost use Prim.Native.Nat.{_≤_};
 ghost use lib.ListN.{length};
 use crate::floats;
+use crate::indexes;
 use crate::read;
 use crate::read::Reader;
+use crate::sets;
 
 // The operations' names in base 256, of a longer one the last eight bytes.
 const AREA: u64 = 0x6172_6561;
@@ -26,15 +28,23 @@ const FILL: u64 = 0x6669_6c6c;
 
 const ELLIPSE: u64 = 0x65_6c6c_6970_7365;
 
+const BUILD: u64 = 0x62_7569_6c64;
+
+const MEETING: u64 = 0x6d_6565_7469_6e67;
+
+const ANY_AT: u64 = 0x616e_795f_6174;
+
+const NEAREST: u64 = 0x6e_6561_7265_7374;
+
 // Two floats and the reader past them.
-struct Pair {
-    x: f64,
-    y: f64,
-    reader: Reader,
+pub struct Pair {
+    pub x: f64,
+    pub y: f64,
+    pub reader: Reader,
 }
 
 // Writes a refusal's number, a flag, a location or a count.
-fn print_number(n: u32) {
+pub fn print_number(n: u32) {
     io::print_hex(1, n as u64, 1);
 }
 
@@ -71,7 +81,7 @@ fn print_three(number: u32, a: f64, b: f64, c: f64) {
 }
 
 // Writes an answer that has a flag or a location.
-fn print_told(number: u32, told: u32) {
+pub fn print_told(number: u32, told: u32) {
     print_number(number);
     io::write_all(1, b" ");
     print_number(told);
@@ -142,22 +152,22 @@ fn ellipse(v: &[f64]) {
     print_three(number, x, y, d);
 }
 
-// Writes a space and a float for each of the list.
-fn print_list(list: &[f64]) {
+// Writes a space and a float for each of the first n of the list.
+pub fn print_list(list: &[f64], n: usize) {
     let mut i = 0;
-    while i < list.len() {
+    while i < list.len() && i < n {
         io::write_all(1, b" ");
         floats::write(list[i]);
         i += 1;
     }
 }
 
-// Writes what making answers, and the lent list.
-fn print_made(number: u32, count: u32, made: &[f64]) {
+// Writes what making answers, and the n lent places.
+fn print_made(number: u32, count: u32, made: &[f64], n: usize) {
     print_number(number);
     io::write_all(1, b" ");
     print_number(count);
-    print_list(made);
+    print_list(made, n);
     io::write_all(1, b"\n");
 }
 
@@ -180,14 +190,14 @@ fn make_in(v: &[f64], n: usize, made: &mut [f64])
 {
     let mut count = 9;
     let number = viskunor::outlines::vk_outline_make(v, &mut made[..n], &mut count);
-    print_made(number, count, &made[..n]);
+    print_made(number, count, made, n);
 }
 
-// Writes what a fill answers, and the lent list.
-fn print_filled(number: u32, fill: f64, work: &[f64]) {
+// Writes what a fill answers, and the n lent places.
+fn print_filled(number: u32, fill: f64, work: &[f64], n: usize) {
     print_number(number);
     print_measure(fill);
-    print_list(work);
+    print_list(work, n);
     io::write_all(1, b"\n");
 }
 
@@ -210,7 +220,7 @@ fn fill_in(v: &[f64], low: Pair, high: Pair, n: usize, work: &mut [f64])
         &mut work[..n],
         &mut fill,
     );
-    print_filled(number, fill, &work[..n]);
+    print_filled(number, fill, work, n);
 }
 
 // The operations on a list alone.
@@ -227,11 +237,14 @@ fn answer_alone(name: u64, v: &[f64]) {
     if name == ELLIPSE {
         return ellipse(v);
     }
+    if name == BUILD {
+        return indexes::build(v);
+    }
     io::write_all(1, b"unknown\n");
 }
 
 // Two floats, a point's or a cell's corner, and the reader past them.
-fn two_floats(buf: &mut [u8], r: Reader) -> Pair {
+pub fn two_floats(buf: &mut [u8], r: Reader) -> Pair {
     let x = read::word(buf, r);
     let y = read::word(buf, x.reader);
     let reader = y.reader;
@@ -264,6 +277,14 @@ fn answer_fill(buf: &mut [u8], r: Reader, v: &[f64]) -> Reader {
     n.reader
 }
 
+// `meeting`: the cell's corners come after the boxes.
+fn answer_meeting(buf: &mut [u8], r: Reader, v: &[f64]) -> Reader {
+    let low = two_floats(buf, r);
+    let high = two_floats(buf, low.reader);
+    indexes::meeting(v, low, high);
+    high.reader
+}
+
 fn answer_of(name: u64, buf: &mut [u8], r: Reader, v: &[f64]) -> Reader {
     if name == MAKE {
         let n = read::word(buf, r);
@@ -272,6 +293,12 @@ fn answer_of(name: u64, buf: &mut [u8], r: Reader, v: &[f64]) -> Reader {
     }
     if name == FILL {
         return answer_fill(buf, r, v);
+    }
+    if name == MEETING {
+        return answer_meeting(buf, r, v);
+    }
+    if name == ANY_AT || name == NEAREST {
+        return sets::answer(name == ANY_AT, buf, r, v);
     }
     if name == CONTAINS || name == LOCATE || name == DISTANCE {
         return answer_at(name, buf, r, v);

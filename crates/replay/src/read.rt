@@ -128,7 +128,7 @@ pub fn word(buf: &mut [u8], r: Reader) -> Token {
     t
 }
 
-// How many floats a list got, and the reader past them.
+// How many members a list got, and the reader past them.
 pub struct Listed {
     pub count: usize,
     pub reader: Reader,
@@ -144,6 +144,25 @@ pub fn list(buf: &mut [u8], r: Reader, out: &mut [f64]) -> Listed
     while i < out.len() && wide_count(i) < n.number {
         let w = word(buf, at);
         out[i] = crate::floats::float(w.number);
+        at = w.reader;
+        i += 1;
+    }
+    Listed {
+        count: i,
+        reader: at,
+    }
+}
+
+// A list of numbers of up to eight digits, likewise.
+pub fn counts(buf: &mut [u8], r: Reader, out: &mut [u32]) -> Listed
+    ensures { λ r. ⌜ Counts (r .count) (now (out .exit)) ⌝ }
+{
+    let n = word(buf, r);
+    let mut at = n.reader;
+    let mut i: usize = 0;
+    while i < out.len() && wide_count(i) < n.number {
+        let w = word(buf, at);
+        out[i] = (w.number % 0x1_0000_0000) as u32;
         at = w.reader;
         i += 1;
     }

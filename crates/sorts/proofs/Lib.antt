@@ -6,3 +6,5 @@ pub mod Lists
 pub mod Order
 -- What sorting keeps.
 pub mod SortLaws
+-- Sorting twice, sorting what is in order, and sorting what a pivot parts.
+pub mod PartLaws

@@ -10,7 +10,7 @@ use lib.Ieee.Bits.{is-true}
 use borrow.Author.Tests.{le-leb, leb-true, leb-false}
 use Rattle.number.specs.Signs.{signBit}
 use Rattle.number.proofs.OrderLaws.{le-not-below, le-through, not-below, below-le, level-le}
-use Rattle.sorts.specs.Keys.{totalLess, goesBy, goes}
+use Rattle.sorts.specs.Keys.{totalLess, goesBy, goes, ahead}
 
 -- ---- of floats that are no NaN
 abbrev Number : Float → Type 0
@@ -144,21 +144,44 @@ not-says x y a b = go (totalLess x y) refl (totalLess y x) refl
     go false h true k e = record { first = h; tie = λ z. absurd (true≢false (sym k ∙ z)) }
     go false h false k e = record { first = h; tie = λ _. let l : b < a = leb-false a b e in omega arith }
 
+through : (x y z : Float) (a b c : ℕ) → Says x y a b → Says y z b c → Says x z a c
+through x y z a b c s t = record {
+  first = not-less-trans x y z (s .first) (t .first);
+  tie = λ e.
+      let l = s .tie (not-less-trans y z x (t .first) e) in
+      let m = t .tie (not-less-trans z x y e (s .first)) in
+      omega arith;
+}
+
 module _ (key : ℕ → Float) where
   pub goes-total : (a b : ℕ) → goes key a b ≡ false → goes key b a ≡ true
   goes-total a b e = holds (key b) (key a) b a (not-says (key a) (key b) a b e)
 
   pub goes-trans : (a b c : ℕ) → goes key a b ≡ true → goes key b c ≡ true → goes key a c ≡ true
-  goes-trans a b c e f =
+  goes-trans a b c e f = holds (key a) (key c) a c (through (key a) (key b) (key c) a b c (says (key a) (key b) a b e) (says (key b) (key c) b c f))
+
+  pub goes-antisym : (a b : ℕ) → goes key a b ≡ true → goes key b a ≡ true → a ≡ b
+  goes-antisym a b e f =
       let s = says (key a) (key b) a b e in
-      let t = says (key b) (key c) b c f in
-      holds (key a) (key c) a c (record {
-        first = not-less-trans (key a) (key b) (key c) (s .first) (t .first);
-        tie = λ z.
-            let l = s .tie (not-less-trans (key b) (key c) (key a) (t .first) z) in
-            let m = t .tie (not-less-trans (key c) (key a) (key b) z (s .first)) in
-            omega arith;
-      })
+      let t = says (key b) (key a) b a f in
+      let l = s .tie (t .first) in
+      let m = t .tie (s .first) in
+      omega arith
+
+  -- what goes before a pivot goes before what does not
+  pub ahead-goes : (v : Float) (t a b : ℕ) → ahead key v t a ≡ true → ahead key v t b ≡ false → goes key a b ≡ true
+  ahead-goes v t a b e f =
+      let s = not-says v (key a) t a (not-true (goesBy v (key a) t a) e) in
+      let r = says v (key b) t b (not-false (goesBy v (key b) t b) f) in
+      holds (key a) (key b) a b (through (key a) v (key b) a t b s r)
+    where
+      not-true : (c : Bool) → not c ≡ true → c ≡ false
+      not-true true e = absurd (false≢true e)
+      not-true false e = refl
+
+      not-false : (c : Bool) → not c ≡ false → c ≡ true
+      not-false true e = refl
+      not-false false e = absurd (true≢false e)
 
 -- ---- what the code's quick tests say
 pub goes-less : (x y : Float) (a b : ℕ) → lt x y ≡ true → true ≡ goesBy x y a b

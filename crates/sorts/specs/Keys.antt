@@ -20,6 +20,15 @@ goesBy x y a b = cond (totalLess x y) true (cond (totalLess y x) false (leb a b)
 abbrev pub goes : (ℕ → Float) → ℕ → ℕ → Bool
 goes key a b = goesBy (key a) (key b) a b
 
+-- x goes before the number t with the key v
+abbrev pub ahead : (ℕ → Float) → Float → ℕ → ℕ → Bool
+ahead key v t x = not (goesBy v (key x) t x)
+
+-- the same as a number, where x has the key k: 1 or 0
+unfoldable pub aheadBit : Float → Float → ℕ → ℕ → ℕ
+unfolding goesBy
+aheadBit v k t x = cond (goesBy v k t x) 0 1
+
 -- the keys that a list holds, one for each number from 0 on
 abbrev pub keyIn : List Float → ℕ → Float
 keyIn K i = getD K i nan

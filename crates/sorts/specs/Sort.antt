@@ -1,9 +1,10 @@
 -- The list in order, and two lists merged, under any order of numbers. Definitions only.
-use mathlib.Core.Bool.{Bool, true, false, cond}
-use mathlib.Core.List.{List, [], _∷_}
-use Prim.Native.Nat.{ℕ, _+_, _<_}
-use lib.Dec.{eqb, ltb}
-use lib.ListN.{length, getD}
+use mathlib.Core.Path.{_≡_}
+use mathlib.Core.Bool.{Bool, true, false, not, cond}
+use mathlib.Core.List.{List, [], _∷_, _++_}
+use Prim.Native.Nat.{ℕ, _+_, _-_, _≤_, _<_}
+use lib.Dec.{leb, eqb, ltb}
+use lib.ListN.{length, getD, take, drop}
 
 -- x before the first member that it goes before
 unfoldable pub insert : (ℕ → ℕ → Bool) → ℕ → List ℕ → List ℕ
@@ -30,6 +31,40 @@ merge le (x ∷ xs) ys = mergeOn le x (λ l. merge le xs l) (x ∷ xs) ys
 -- whether the next member comes from the first list, which is at i, the second being at j
 unfoldable pub fromFirst : (ℕ → ℕ → Bool) → List ℕ → ℕ → List ℕ → ℕ → Bool
 fromFirst le al i bl j = cond (ltb i (length al)) (cond (ltb j (length bl)) (le (getD al i 0) (getD bl j 0)) true) false
+
+-- the members that pass a test, and those that do not, in their order
+unfoldable pub keep : (ℕ → Bool) → List ℕ → List ℕ
+keep p [] = []
+keep p (x ∷ xs) = cond (p x) (x ∷ keep p xs) (keep p xs)
+
+abbrev pub others : (ℕ → Bool) → List ℕ → List ℕ
+others p xs = keep (λ x. not (p x)) xs
+
+-- of the first i members of s₀, those that pass have been put to the front of s, a of them, and the others to the front of t
+pub record Dealt (p : ℕ → Bool) (s₀ t₀ s t : List ℕ) (a i : ℕ) : Type 0 where
+  pub within : i ≤ length s₀
+  pub fewer : a ≤ i
+  pub long : length s ≡ length s₀
+  pub room : length t ≡ length t₀
+  pub passed : take a s ≡ keep p (take i s₀)
+  pub failed : take (i - a) t ≡ others p (take i s₀)
+  pub ahead : drop i s ≡ drop i s₀
+
+-- what holds of each member
+unfoldable pub Each : (ℕ → Type 0) → List ℕ → Type 0
+Each P [] = Unit {0}
+Each P (x ∷ xs) = P x × Each P xs
+
+-- each member goes before all that follow
+unfoldable pub Sorted : (ℕ → ℕ → Bool) → List ℕ → Type 0
+unfolding Each
+Sorted le [] = Unit {0}
+Sorted le (x ∷ xs) = Each (λ y. le x y ≡ true) xs × Sorted le xs
+
+-- the first m in order, ascending, then the others, ascending
+unfoldable pub halves : (ℕ → ℕ → Bool) → ℕ → List ℕ → List ℕ
+unfolding sort
+halves le m xs = sort leb (take m (sort le xs)) ++ sort leb (drop m (sort le xs))
 
 -- how often i occurs in the list
 unfoldable pub times : ℕ → List ℕ → ℕ

@@ -3,8 +3,8 @@ ghost use mathlib.Core.Path.{_≡_};
 ghost use mathlib.Core.List.{_++_};
 ghost use Prim.Native.Nat.{_+_, _≤_};
 ghost use lib.ListN.{length, getD, set, take, drop};
-ghost use Rattle.sorts.specs.Sort.{sort, merge, fromFirst};
-ghost use Rattle.sorts.specs.Keys.{totalLess, goesBy, goes, keyIn};
+ghost use Rattle.sorts.specs.Sort.{sort, merge, fromFirst, keep, others, Dealt};
+ghost use Rattle.sorts.specs.Keys.{totalLess, goesBy, goes, ahead, aheadBit, keyIn};
 
 // The member at i, 0 past the end.
 pub fn at(s: &[u32], i: usize) -> u32
@@ -23,7 +23,7 @@ pub fn put(s: &mut [u32], i: usize, x: u32)
 }
 
 // The key of item i, NaN past the end.
-fn key(keys: &[f64], i: u32) -> f64
+pub fn key(keys: &[f64], i: u32) -> f64
     ensures { λ r. ⌜ r ≡ keyIn (now (keys .entry)) i ⌝ }
 {
     let k = i as usize;
@@ -133,4 +133,48 @@ pub fn sorted(keys: &[f64], s: &mut [u32], t: &mut [u32])
     sorted(keys, &mut s[..m], t);
     sorted(keys, &mut s[m..], t);
     joined(keys, s, m, t);
+}
+
+// Whether x, whose key is k, goes before the number t with the key v: 1 or 0.
+fn is_ahead(k: f64, x: u32, v: f64, t: u32) -> usize
+    ensures { λ r. ⌜ r ≡ aheadBit v k t x ⌝ }
+{
+    if (k < v) | (v < k) {
+        return if k < v { 1 } else { 0 };
+    }
+    if tied(v, k, t, x) { 0 } else { 1 }
+}
+
+// Puts the members of s that go before the pivot, the number x with the key v, at its front, and the others
+// at the front of t; gives how many go before.
+fn dealt(keys: &[f64], v: f64, x: u32, s: &mut [u32], t: &mut [u32]) -> usize
+    requires { ⌜ length (now s) ≤ length (now t) ⌝ }
+    ensures { λ r. ⌜ Dealt (ahead (keyIn (now (keys .entry))) v x) (now (s .entry)) (now (t .entry)) (now (s .exit)) (now (t .exit)) r (length (now (s .entry))) ⌝ }
+{
+    let mut a: usize = 0;
+    let mut i: usize = 0;
+    while i < s.len() {
+        let y = at(s, i);
+        let c = is_ahead(key(keys, y), y, v, x);
+        put(s, a, y);
+        put(t, i - a, y);
+        a += c;
+        i += 1;
+    }
+    a
+}
+
+// s becomes its members that go before the pivot, the number x with the key v, then the others, all in the
+// order in which they stood; gives how many go before. t is working space, at least as long.
+pub fn parted(keys: &[f64], v: f64, x: u32, s: &mut [u32], t: &mut [u32]) -> usize
+    requires { ⌜ length (now s) ≤ length (now t) ⌝ }
+    ensures { λ r. ⌜ (now (s .exit) ≡ keep (ahead (keyIn (now (keys .entry))) v x) (now (s .entry)) ++ others (ahead (keyIn (now (keys .entry))) v x) (now (s .entry)))
+        × (r ≡ length (keep (ahead (keyIn (now (keys .entry))) v x) (now (s .entry)))) ⌝ }
+{
+    let n = s.len();
+    let a = dealt(keys, v, x, s, t);
+    let k = n - a;
+    let w = &t[..];
+    copied(&w[0..k], &mut s[a..]);
+    a
 }

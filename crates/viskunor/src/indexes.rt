@@ -5,15 +5,16 @@ ghost use mathlib.Core.Path.{_≡_};
 ghost use lib.ListN.{length};
 ghost use Rattle.number.specs.Exact.{zeroᶠ};
 ghost use Rattle.geometry.specs.Answers.{numberOf, toldOf};
-ghost use Rattle.index.specs.Entries.{flat};
-ghost use Rattle.index.specs.Tree.{indexOf, itemsOf};
-ghost use Rattle.index.specs.Layout.{nodesOf, cornersOf, linksOf};
-ghost use Rattle.index.specs.Answers.{buildTested, builtFor, writtenFor, builtNumber, nodesIn, itemsIn};
+ghost use Rattle.index.specs.Tree.{indexOf};
+ghost use Rattle.index.specs.Answers.{writtenFor, buildAnswer, builtCorners, builtLinks, builtItems, builtNumber, nodesIn, itemsIn};
+ghost use Rattle.records.specs.Records.{nodesAnswer, recordNodes, recordItems};
 ghost use Rattle.meeting.specs.Meeting.{meetingOf};
-ghost use Rattle.meeting.specs.Answers.{cellOf, meetingTested, meetingAnswer, zeros};
+ghost use Rattle.meeting.specs.Answers.{cellOf, meetingTested, meetingAnswer};
+ghost use Rattle.geometry.specs.Lists.{zeros};
 use crate::answers;
 use boundary::Bounds;
 use boundary::Point;
+use index::Node;
 
 #[no_mangle]
 pub extern "C" fn vk_index_build(
@@ -24,17 +25,37 @@ pub extern "C" fn vk_index_build(
     node_count: &mut u32,
     item_count: &mut u32,
 ) -> u32
-    ensures { λ r. ⌜ (r ≡ builtNumber (builtFor (indexOf (now (boxes .entry))) (buildTested (now (boxes .entry)) (length (now (corners .entry))) (length (now (links .entry))) (length (now (items .entry))))))
-        × (now («node_count» .exit) ≡ nodesIn (builtFor (indexOf (now (boxes .entry))) (buildTested (now (boxes .entry)) (length (now (corners .entry))) (length (now (links .entry))) (length (now (items .entry))))))
-        × (now («item_count» .exit) ≡ itemsIn (builtFor (indexOf (now (boxes .entry))) (buildTested (now (boxes .entry)) (length (now (corners .entry))) (length (now (links .entry))) (length (now (items .entry))))))
-        × (now (corners .exit) ≡ writtenFor (flat cornersOf (nodesOf (indexOf (now (boxes .entry))))) (now (corners .entry)) (buildTested (now (boxes .entry)) (length (now (corners .entry))) (length (now (links .entry))) (length (now (items .entry)))))
-        × (now (links .exit) ≡ writtenFor (flat linksOf (nodesOf (indexOf (now (boxes .entry))))) (now (links .entry)) (buildTested (now (boxes .entry)) (length (now (corners .entry))) (length (now (links .entry))) (length (now (items .entry)))))
-        × (now (items .exit) ≡ writtenFor (itemsOf (indexOf (now (boxes .entry)))) (now (items .entry)) (buildTested (now (boxes .entry)) (length (now (corners .entry))) (length (now (links .entry))) (length (now (items .entry))))) ⌝ }
+    ensures { λ r. ⌜ (r ≡ builtNumber (buildAnswer (now (boxes .entry)) (now (corners .entry)) (now (links .entry)) (now (items .entry))))
+        × (now («node_count» .exit) ≡ nodesIn (buildAnswer (now (boxes .entry)) (now (corners .entry)) (now (links .entry)) (now (items .entry))))
+        × (now («item_count» .exit) ≡ itemsIn (buildAnswer (now (boxes .entry)) (now (corners .entry)) (now (links .entry)) (now (items .entry))))
+        × (now (corners .exit) ≡ builtCorners (now (boxes .entry)) (now (corners .entry)) (now (links .entry)) (now (items .entry)))
+        × (now (links .exit) ≡ builtLinks (now (boxes .entry)) (now (corners .entry)) (now (links .entry)) (now (items .entry)))
+        × (now (items .exit) ≡ builtItems (now (boxes .entry)) (now (corners .entry)) (now (links .entry)) (now (items .entry))) ⌝ }
 {
     let built = index::new(boxes, corners, links, items);
     *node_count = index::refusals::nodes_in(built);
     *item_count = index::refusals::items_in(built);
     index::refusals::built_number(built)
+}
+
+// The same as node records. Its proof is a walk by hand, as that of `records::offer` is.
+#[no_mangle]
+pub extern "C" fn vk_index_nodes(
+    boxes: &[f64],
+    nodes: &mut [Node],
+    items: &mut [u32],
+    node_count: &mut u32,
+    item_count: &mut u32,
+) -> u32
+    ensures { λ r. ⌜ (r ≡ builtNumber (nodesAnswer (now (boxes .entry)) (length (now (nodes .entry))) (length (now (items .entry)))))
+        × (now («node_count» .exit) ≡ nodesIn (nodesAnswer (now (boxes .entry)) (length (now (nodes .entry))) (length (now (items .entry)))))
+        × (now («item_count» .exit) ≡ itemsIn (nodesAnswer (now (boxes .entry)) (length (now (nodes .entry))) (length (now (items .entry)))))
+        × (now (nodes .exit) ≡ recordNodes (now (boxes .entry)) (now (nodes .entry)) (now (items .entry)))
+        × (now (items .exit) ≡ recordItems (now (boxes .entry)) (now (nodes .entry)) (now (items .entry))) ⌝ }
+{
+    let made = records::records(boxes, nodes.len(), items, node_count, item_count);
+    records::offer(nodes, made.list, made.count);
+    made.number
 }
 
 #[no_mangle]

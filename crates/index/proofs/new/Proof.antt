@@ -1,6 +1,6 @@
 -- `index::new` meets its contract. Assumes nothing.
 use Rattle.index.proofs.GrowLaws.{length-index-items, index-nodes, accepted}
-use Rattle.index.specs.Answers.{builtFor, writtenFor}
+use Rattle.index.specs.Answers.{builtFor, writtenFor, buildAnswer, builtCorners, builtLinks, builtItems}
 use native.Mathlib.Omega.{arith}
 use mathlib.Core.Path.{sym, _∙_}
 use borrow.Author.Needs.{needs}
@@ -43,14 +43,14 @@ same-length-3 : tie.Need-same-length-3
 same-length-3 c = search needs
 
 returns : tie.Need-returns
-unfolding builtFor writtenFor
+unfolding buildAnswer builtCorners builtLinks builtItems builtFor writtenFor
 returns c =
     let e = sym (c .before .before .before .before .before .before .before .before .before .before .before .before .build-tested .ensures) ∙ c .before .before .before .before .before .before .before .before .before .before .enum-told .given .1 in
     let g = c .before .before .before .before .before .before .grow .ensures in
     (rw (e, g .nodes, length-index-items), rw e (g .corners), rw e (g .links), rw e (g .items))
 
 returns-2 : tie.Need-returns-2
-unfolding builtFor writtenFor
+unfolding buildAnswer builtCorners builtLinks builtItems builtFor writtenFor
 returns-2 c =
     let e = sym (c .before .before .before .build-tested .ensures) ∙ c .before .t .given .1 in
     (rw e, rw e, rw e, rw e)

@@ -1,8 +1,11 @@
 -- `fill::cell::fill_in` meets its contract. Assumes nothing.
+use mathlib.Core.Path.{_∙_}
 use Prim.Native.Nat.{_*_}
 use native.Mathlib.Nat.{le-refl}
 use native.Mathlib.Omega.{arith}
 use lib.ListN.{length}
+use Rattle.number.specs.Exact.{zeroᶠ}
+use Rattle.geometry.proofs.ClearLaws.{zeros-past}
 use Rattle.clip.proofs.LentLaws.{rest-kept}
 use Rattle.fill.specs.Fill.{fillOf}
 use Rattle.fill.specs.Answers.{halfOf, filled, cleared}
@@ -20,11 +23,11 @@ four-requires c κs = (rw (c .before .before .before .write-edges .ensures .0 .s
 summed-requires : tie.Need-summed-requires
 summed-requires c κs = rw (c .before .before .before .four .ensures .0, c .before .before .before .before .before .before .before .write-edges .ensures .0 .same) (omega arith)
 
-mul-clear : tie.Need-mul-clear
-mul-clear c = search needs
+mul-clear-numbers : tie.Need-mul-clear-numbers
+mul-clear-numbers c = search needs
 
-clear-requires : tie.Need-clear-requires
-clear-requires c κs = rw (c .before .before .before .before .before .four .ensures .0, c .before .before .before .before .before .before .before .before .before .write-edges .ensures .0 .same) (omega arith)
+clear-numbers-requires : tie.Need-clear-numbers-requires
+clear-numbers-requires c κs = rw (c .before .before .before .before .before .four .ensures .0, c .before .before .before .before .before .before .before .before .before .write-edges .ensures .0 .same) (omega arith)
 
 same-length : tie.Need-same-length
 same-length c = search needs
@@ -36,7 +39,7 @@ returns c =
     let c12 = c8 .before .before .before .before in
     let c16 = c12 .before .before .before .before in (
       c .before .before .before .before .summed .ensures _ _ (c8 .four .ensures .2 _ (widened (c12 .write-edges .ensures .1) (le-refl _))),
-      rw (c .before .before .clear .ensures, c8 .four .ensures .1, rest-kept (c12 .write-edges .ensures .0) (8 * halfOf (length (c16 .args .w .now))) (omega (arith, c16 .pre))),
+      rw (c .before .before .clear-numbers .ensures) (zeros-past zeroᶠ (8 * halfOf (length (c16 .args .w .now))) _ (c16 .args .w .now) (c8 .four .ensures .1 ∙ rest-kept (c12 .write-edges .ensures .0) (8 * halfOf (length (c16 .args .w .now))) (omega (arith, c16 .pre)))),
     )
 
 pub fill-in-spec : {M : Type 1} → statement M
@@ -46,7 +49,7 @@ fill-in-spec =
     write-edges-requires
     four-requires
     summed-requires
-    mul-clear
-    clear-requires
+    mul-clear-numbers
+    clear-numbers-requires
     same-length
     returns)

@@ -7,19 +7,19 @@ use Rattle.fill.proofs.tests.cell_tested.Tie as tie
 enum-known-t : tie.Need-enum-known-t
 enum-known-t c = search needs
 
-cell-fits-requires : tie.Need-cell-fits-requires
-cell-fits-requires c κs = search needs
+box-fits-requires : tie.Need-box-fits-requires
+box-fits-requires c κs = search needs
 
 enum-known-t-2 : tie.Need-enum-known-t-2
 enum-known-t-2 c = search needs
 
 returns : tie.Need-returns
 unfolding cellTested
-returns c = rw (c .before .before .before .t .given .1, ← c .before .cell-fits .ensures, c .if1 .taken)
+returns c = rw (c .before .before .before .t .given .1, ← c .before .box-fits .ensures, c .if1 .taken)
 
 returns-2 : tie.Need-returns-2
 unfolding cellTested
-returns-2 c = rw (c .before .before .before .t .given .1, ← c .before .cell-fits .ensures, c .if1 .left)
+returns-2 c = rw (c .before .before .before .t .given .1, ← c .before .box-fits .ensures, c .if1 .left)
 
 returns-3 : tie.Need-returns-3
 unfolding cellTested
@@ -27,4 +27,4 @@ returns-3 c = rw (c .before .t2 .given .1)
 
 pub cell-tested-spec : {M : Type 1} → statement M
 cell-tested-spec =
-    tie.close (tie.spec enum-known-t cell-fits-requires enum-known-t-2 returns returns-2 returns-3)
+    tie.close (tie.spec enum-known-t box-fits-requires enum-known-t-2 returns returns-2 returns-3)

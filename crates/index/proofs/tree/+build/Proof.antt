@@ -1,5 +1,5 @@
 -- `index::tree::build` meets its contract. The measure is the number of items. Assumes nothing.
-use Rattle.index.proofs.BuildLaws.{rest-length, whole-length, grown-leaf, grown-inner}
+use Rattle.index.proofs.BuildLaws.{rest-length, whole-length, first-ascends, second-ascends, grown-leaf, grown-inner}
 use Rattle.index.proofs.TreeLaws.{extra-below}
 use Rattle.index.specs.Entries.{boxAt, pointIn}
 use lib.ListN.{take}
@@ -114,15 +114,16 @@ build-build-requires : (t : ℕ) → build-lts.Need-build-requires (
   build.Post,
 ) (build-at t) build.Post
 build-build-requires t c κs =
-    let is : List ℕ = c .before .before .before .before .before .before .before .before .before .before .before .before .before .before .before .before .before .before .before .before .before .before .before .before .before .args .list .now in
+    let a = c .before .before .before .before .before .before .before .before .before .before .before .before .before .before .before .before .before .before .before .before .before .before .before .before .before .args in
+    let is : List ℕ = a .list .now in
     let S : List ℕ = c .before .before .before .before .before .before .before .before .before .before .before .before .before .settle .last .1 .1 .1 .0 in
     let k : length S ≡ length is = c .before .before .before .before .before .before .before .before .before .before .before .before .before .settle .kept .1 .1 .1 .0 in
     let w : length (c .before .before .before .before .before .before .before .before .before .before .before .before .before .settle .last .1 .1 .1 .1 .0) ≡ length (c .before .before .before .before .before .before .before .before .before .before .before .before .before .before .before .before .before .before .before .before .before .before .before .before .before .args .work .now) = c .before .before .before .before .before .before .before .before .before .before .before .before .before .settle .kept .1 .1 .1 .1 .0 in
     let e : length is ≡ t = c .before .before .before .before .before .before .before .before .before .before .before .before .before .before .before .before .before .before .before .before .before .before .before .before .before .pre .0 in
-    let R = c .before .before .before .before .before .before .before .before .before .before .before .before .before .before .before .before .before .before .before .before .before .before .before .before .before .pre .1 in
+    let R = c .before .before .before .before .before .before .before .before .before .before .before .before .before .before .before .before .before .before .before .before .before .before .before .before .before .pre .1 .1 in
     let h = c .before .before .before .before .if1 .left in
     let l = length-take-le (length is / 2) S (omega arith) in
-    (omega arith, record { room = omega arith; items = omega arith; own = omega arith; free = omega arith })
+    (omega arith, (first-ascends (boxAt (a .wide .now)) (pointIn (a .xs .now) (a .ys .now)) is (a .at) (a .node) (a .next) (a .corners .now) (a .links .now) S (c .before .before .before .before .before .before .before .before .before .before .before .before .before .settle .ensures .1) h, record { room = omega arith; items = omega arith; own = omega arith; free = omega arith }))
 
 build-mul-build : (t : ℕ) → build-lts.Need-mul-build (
   settle-reads.Asked,
@@ -131,7 +132,7 @@ build-mul-build : (t : ℕ) → build-lts.Need-mul-build (
   build.Post,
 ) (build-at t) build.Post
 build-mul-build t c =
-    let f = c .before .before .before .before .before .before .before .before .before .before .before .before .before .before .before .before .before .before .before .before .before .before .before .before .before .before .before .before .before .before .before .before .before .before .pre .1 .free in
+    let f = c .before .before .before .before .before .before .before .before .before .before .before .before .before .before .before .before .before .before .before .before .before .before .before .before .before .before .before .before .before .before .before .before .before .before .pre .1 .1 .free in
     search needs
 
 build-sub-build : (t : ℕ) → build-lts.Need-sub-build (
@@ -165,7 +166,7 @@ build-add-build-2 : (t : ℕ) → build-lts.Need-add-build-2 (
   build.Post,
 ) (build-at t) build.Post
 build-add-build-2 t c =
-    let f = c .before .before .before .before .before .before .before .before .before .before .before .before .before .before .before .before .before .before .before .before .before .before .before .before .before .before .before .before .before .before .before .before .before .before .before .before .before .before .pre .1 .items in
+    let f = c .before .before .before .before .before .before .before .before .before .before .before .before .before .before .before .before .before .before .before .before .before .before .before .before .before .before .before .before .before .before .before .before .before .before .before .before .before .before .pre .1 .1 .items in
     search needs
 
 build-add-build-3 : (t : ℕ) → build-lts.Need-add-build-3 (
@@ -192,13 +193,13 @@ build-build-requires-2 t c κs =
     let w : length (c .before .before .before .before .before .before .before .before .before .before .before .before .build .last .1 .1 .1 .1 .0) ≡ length (c .before .before .before .before .before .before .before .before .before .before .before .before .before .before .before .before .before .before .before .before .before .before .before .before .before .before .settle .last .1 .1 .1 .1 .0) = c .before .before .before .before .before .before .before .before .before .before .before .before .build .kept .1 .1 .1 .1 .0 in
     let v : length (c .before .before .before .before .before .before .before .before .before .before .before .before .before .before .before .before .before .before .before .before .before .before .before .before .before .before .settle .last .1 .1 .1 .1 .0) ≡ length (a .work .now) = c .before .before .before .before .before .before .before .before .before .before .before .before .before .before .before .before .before .before .before .before .before .before .before .before .before .before .settle .kept .1 .1 .1 .1 .0 in
     let e : length is ≡ t = c .before .before .before .before .before .before .before .before .before .before .before .before .before .before .before .before .before .before .before .before .before .before .before .before .before .before .before .before .before .before .before .before .before .before .before .before .before .before .pre .0 in
-    let R = c .before .before .before .before .before .before .before .before .before .before .before .before .before .before .before .before .before .before .before .before .before .before .before .before .before .before .before .before .before .before .before .before .before .before .before .before .before .before .pre .1 in
+    let R = c .before .before .before .before .before .before .before .before .before .before .before .before .before .before .before .before .before .before .before .before .before .before .before .before .before .before .before .before .before .before .before .before .before .before .before .before .before .before .pre .1 .1 in
     let h = c .before .before .before .before .before .before .before .before .before .before .before .before .before .before .before .before .before .if1 .left in
     let l = length-take-le (length is / 2) S (omega arith) in
     let z = rest-length S Y (length is / 2) (omega arith) y in
     let f = c .before .before .before .before .before .before .before .before .before .before .before .before .build .ensures .free in
     let x = extra-below (boxAt (a .wide .now)) (pointIn (a .xs .now) (a .ys .now)) (take (length is / 2) S) (omega arith) in
-    (omega arith, record { room = omega arith; items = omega arith; own = omega arith; free = omega arith })
+    (omega arith, (second-ascends (boxAt (a .wide .now)) (pointIn (a .xs .now) (a .ys .now)) is (a .at) (a .node) (a .next) (a .corners .now) (a .links .now) S (c .before .before .before .before .before .before .before .before .before .before .before .before .before .before .before .before .before .before .before .before .before .before .before .before .before .before .settle .ensures .1) h Y y, record { room = omega arith; items = omega arith; own = omega arith; free = omega arith }))
 
 build-same-length-5 : (t : ℕ) → build-lts.Need-same-length-5 (
   settle-reads.Asked,

@@ -1,5 +1,5 @@
 -- `index::tree::grow_in` meets its contract. Assumes nothing.
-use Rattle.index.proofs.GrowLaws.{grown-all}
+use Rattle.index.proofs.GrowLaws.{numbers-ascend, grown-all}
 use Rattle.index.specs.Entries.{boxCount}
 use lib.Seq.{length-take-le, length-front}
 use lib.ListN.{drop}
@@ -81,7 +81,7 @@ build-requires c κs =
     let w = P .4 in
     let f = length-front (c .before .before .before .before .before .before .before .before .before .before .before .before .before .before .before .before .before .before .before .before .before .before .before .before .before .before .before .before .before .before .before .before .args .items .now) (c .before .before .before .before .before .before .before .before .before .before .before .before .count-up .last .0) (boxCount (c .before .before .before .before .before .before .before .before .before .before .before .before .before .before .before .before .before .before .before .before .before .before .before .before .before .before .before .before .before .before .before .before .args .boxes .now)) (c .before .before .before .before .before .before .before .before .before .before .before .before .count-up .kept .0) in
     let l = length-take-le (boxCount (c .before .before .before .before .before .before .before .before .before .before .before .before .before .before .before .before .before .before .before .before .before .before .before .before .before .before .before .before .before .before .before .before .args .boxes .now)) (c .before .before .before .before .before .before .before .before .before .before .before .before .count-up .last .0 ++ drop (boxCount (c .before .before .before .before .before .before .before .before .before .before .before .before .before .before .before .before .before .before .before .before .before .before .before .before .before .before .before .before .before .before .before .before .args .boxes .now)) (c .before .before .before .before .before .before .before .before .before .before .before .before .before .before .before .before .before .before .before .before .before .before .before .before .before .before .before .before .before .before .before .before .args .items .now)) (omega arith) in
-    record { room = omega arith; items = omega arith; own = omega arith; free = omega arith }
+    (numbers-ascend (c .before .before .before .before .before .before .before .before .before .before .before .before .before .before .before .before .before .before .before .before .before .before .before .before .before .before .before .before .before .before .before .before .args .items .now) (c .before .before .before .before .before .before .before .before .before .before .before .before .count-up .last .0) (boxCount (c .before .before .before .before .before .before .before .before .before .before .before .before .before .before .before .before .before .before .before .before .before .before .before .before .before .before .before .before .before .before .before .before .args .boxes .now)) (omega arith) (c .before .before .before .before .before .before .before .before .before .before .before .before .count-up .ensures), record { room = omega arith; items = omega arith; own = omega arith; free = omega arith })
 
 same-length : tie.Need-same-length
 same-length c = search needs

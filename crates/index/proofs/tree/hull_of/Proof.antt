@@ -3,6 +3,8 @@ use Rattle.index.specs.Tree.{hull, hullOf}
 use Rattle.index.specs.Entries.{boxAt}
 use Rattle.boundary.proofs.FoldLaws.{fold-drop-next, fold-drop-end}
 use Rattle.boundary.specs.Folds.{fold}
+use Rattle.sorts.proofs.PartLaws.{sort-sorted}
+use lib.Dec.{leb}
 use lib.ListN.{length, drop}
 use Prim.Native.Nat.{_≤_, _-_}
 use mathlib.Core.Path.{_≡_, sym, _∙_}
@@ -21,7 +23,7 @@ empty-box-requires c κs = search needs
 
 loop-holds : tie.Need-loop-holds Inv-loop μ-loop
 unfolding hullOf
-loop-holds c = (search needs, rw (c .empty-box .ensures))
+loop-holds c = (search needs, rw (c .empty-box .ensures, sort-sorted leb _ (c .before .before .before .pre)))
 
 at-requires : tie.Need-at-requires Inv-loop μ-loop
 at-requires c κs = search needs

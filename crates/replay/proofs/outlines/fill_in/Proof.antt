@@ -14,12 +14,6 @@ slice-aggregate-vk-outline-fill c = sym (length-take-le _ _ (search needs))
 vk-outline-fill-requires : tie.Need-vk-outline-fill-requires
 vk-outline-fill-requires c κs = search needs
 
-slice-reshare-prefix-print-filled : tie.Need-slice-reshare-prefix-print-filled
-slice-reshare-prefix-print-filled c = search needs
-
-slice-aggregate-print-filled : tie.Need-slice-aggregate-print-filled
-slice-aggregate-print-filled c = sym (length-take-le _ _ (search needs))
-
 print-filled-requires : tie.Need-print-filled-requires
 print-filled-requires c κs = search needs
 
@@ -36,8 +30,6 @@ fill-in-spec =
     slice-relend-prefix-vk-outline-fill
     slice-aggregate-vk-outline-fill
     vk-outline-fill-requires
-    slice-reshare-prefix-print-filled
-    slice-aggregate-print-filled
     print-filled-requires
     same-length
     returns)

@@ -14,12 +14,6 @@ slice-aggregate-vk-outline-make c = sym (length-take-le _ _ (search needs))
 vk-outline-make-requires : tie.Need-vk-outline-make-requires
 vk-outline-make-requires c κs = search needs
 
-slice-reshare-prefix-print-made : tie.Need-slice-reshare-prefix-print-made
-slice-reshare-prefix-print-made c = search needs
-
-slice-aggregate-print-made : tie.Need-slice-aggregate-print-made
-slice-aggregate-print-made c = sym (length-take-le _ _ (search needs))
-
 print-made-requires : tie.Need-print-made-requires
 print-made-requires c κs = search needs
 
@@ -36,8 +30,6 @@ make-in-spec =
     slice-relend-prefix-vk-outline-make
     slice-aggregate-vk-outline-make
     vk-outline-make-requires
-    slice-reshare-prefix-print-made
-    slice-aggregate-print-made
     print-made-requires
     same-length
     returns)

@@ -6,10 +6,10 @@ use Rattle.replay.proofs.outlines.print_list.Statement.{statement}
 use Rattle.replay.proofs.outlines.print_list.Tie as tie
 
 abbrev Inv-loop : tie.InvT-loop
-Inv-loop list i₀ t3 i = i ≤ length list
+Inv-loop list n i₀ t3 i = i ≤ length list
 
 abbrev μ-loop : tie.MeasureT-loop
-μ-loop list i₀ t3 i = length list - i
+μ-loop list n i₀ t3 i = length list - i
 
 loop-holds : tie.Need-loop-holds Inv-loop μ-loop
 loop-holds c = search needs
@@ -41,6 +41,9 @@ loop-again c = search needs
 returns : tie.Need-returns Inv-loop μ-loop
 returns c = search needs
 
+returns-2 : tie.Need-returns-2 Inv-loop μ-loop
+returns-2 c = search needs
+
 pub print-list-spec : {M : Type 1} → statement M
 print-list-spec =
     tie.close
@@ -56,4 +59,5 @@ print-list-spec =
     add-i
     loop-less
     loop-again
-    returns)
+    returns
+    returns-2)

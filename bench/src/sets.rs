@@ -1,0 +1,106 @@
+//! The queries over a set of 16, 256 and 1,024 outlines of 4 to 12 vertices. Ours tests the set, builds the
+//! index, answers and clears it; the Rust makes a `Polygon` of a copy of each outline's points, an `Index`
+//! of their boxes, and answers.
+use crate::indexes::Space;
+use crate::library;
+use crate::original::geometry::{self, Point, Polygon, Region};
+use crate::original::index::Index;
+use crate::outlines::{keep, polygon};
+use crate::random::Random;
+use crate::table::{Table, times};
+use std::f64::consts::TAU;
+use std::hint::black_box;
+
+/// Points of a row: each figure is the mean over them.
+const POINTS: usize = 16;
+
+/// Rings of 4 to 12 corners spread over a square field.
+fn outlines(n: usize) -> Vec<Vec<f64>> {
+    let mut r = Random::new(1, "sets");
+    let side = (n as f64).sqrt() * 4.0;
+    let mut one = |k: usize| {
+        let (x, y) = (side * (r.digits() - 1.0), side * (r.digits() - 1.0));
+        let (n, size) = (4 + k % 9, r.digits());
+        let corner = |i: usize| {
+            let (sin, cos) = (TAU * (i as f64 + 0.3) / n as f64).sin_cos();
+            [x + size * cos, y + size * sin]
+        };
+        (0..n).flat_map(corner).collect()
+    };
+    (0..n).map(&mut one).collect()
+}
+
+/// The Rust's index over the outlines, and the polygons.
+fn rust_index(lists: &[Vec<Point>]) -> (Index, Vec<Polygon>) {
+    let polygons: Vec<Polygon> = lists.iter().map(|l| polygon(l)).collect();
+    let boxes: Vec<_> = polygons.iter().map(|p| p.bounds()).collect();
+    (Index::new(&boxes), polygons)
+}
+
+#[inline(never)]
+fn rust_any_at(lists: &[Vec<Point>], p: Point) -> bool {
+    let (index, polygons) = rust_index(lists);
+    index.any_at(p, |k| polygons[k].contains(p))
+}
+
+#[inline(never)]
+fn rust_nearest(lists: &[Vec<Point>], p: Point) -> Option<(usize, f64)> {
+    let (index, polygons) = rust_index(lists);
+    index.nearest(p, |k| polygons[k].distance(p).0.abs())
+}
+
+pub fn rows(table: &mut Table) {
+    let mut space = Space::new();
+    for n in [16, 256, 1024] {
+        let lists = outlines(n);
+        let vertices: Vec<f64> = lists.concat();
+        let counts: Vec<u32> = lists.iter().map(|l| l.len() as u32 / 2).collect();
+        let rust: Vec<Vec<Point>> = lists.iter().map(|l| geometry::points(l)).collect();
+        let mut r = Random::new(2, "points");
+        let side = (n as f64).sqrt() * 4.0;
+        let mut at = || side * (r.digits() - 1.0);
+        let points: Vec<[f64; 2]> = (0..POINTS).map(|_| [at(), at()]).collect();
+        let inputs = format!("{n} outlines");
+        let calls = POINTS as f64;
+        let mut any = 0;
+        let (a, b) = times(
+            || {
+                for p in black_box(&points) {
+                    let set = (vertices.as_slice(), counts.as_slice());
+                    keep(library::set_any_at(
+                        black_box(set),
+                        *p,
+                        space.lent(),
+                        &mut any,
+                    ));
+                }
+            },
+            || {
+                for [x, y] in black_box(&points) {
+                    keep(rust_any_at(black_box(&rust), Point::um(*x, *y)));
+                }
+            },
+        );
+        table.row("any_at", &inputs, a / calls, b / calls);
+        let mut fields = (0, 0, 0.0);
+        let (a, b) = times(
+            || {
+                for p in black_box(&points) {
+                    let set = (vertices.as_slice(), counts.as_slice());
+                    keep(library::set_nearest(
+                        black_box(set),
+                        *p,
+                        space.lent(),
+                        &mut fields,
+                    ));
+                }
+            },
+            || {
+                for [x, y] in black_box(&points) {
+                    keep(rust_nearest(black_box(&rust), Point::um(*x, *y)));
+                }
+            },
+        );
+        table.row("nearest", &inputs, a / calls, b / calls);
+    }
+}

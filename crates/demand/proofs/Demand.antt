@@ -1,0 +1,87 @@
+-- Demand 3 of every accepted set that has an outline and every query point, all on the grid. Assumes nothing.
+use mathlib.Core.Path.{_≡_, sym, ap, _∙_}
+use mathlib.Core.Bool.{false, not, cond}
+use mathlib.Core.List.{List}
+use Prim.Native.Nat.{ℕ, _<_}
+use native.Mathlib.Omega.{arith}
+use borrow.Author.Tests.{ne-eqb}
+use lib.Dec.{T, eqb}
+use lib.ListN.{length}
+use lib.Ieee.{Float, inf, isNan}
+use Rattle.number.specs.Exact.{Is}
+use Rattle.number.specs.Signs.{absOf}
+use Rattle.number.proofs.OrderLaws.{below-le, left-not-nan}
+use Rattle.number.proofs.Values.{abs-is, below-infinity}
+use Rattle.boundary.specs.declared.Point.{Point}
+use Rattle.boundary.specs.declared.Distance.{Distance}
+use Rattle.boundary.specs.Nearest.{nearestOf, signedOf}
+use Rattle.boundary.specs.Outline.{edges}
+use Rattle.geometry.specs.declared.Answer.the-variants.{Away}
+use Rattle.geometry.specs.Polygon.{containsOf}
+use Rattle.geometry.specs.Refusals.{pointTested}
+use Rattle.geometry.specs.Answers.{answerFor, distanceAnswer}
+use Rattle.index.specs.declared.Test.the-variants.{Passed}
+use Rattle.set.specs.Set.{outlineAt}
+use Rattle.index.specs.Answers.{roomTested, shortIndex}
+use Rattle.set.specs.Tests.{setTested, pointTestedIn, setQueryTested}
+use Rattle.nearest.specs.declared.Nearest.the-variants.{At}
+use Rattle.nearest.specs.Nearest.{magnitudeOf, magnitudeAt, leastOf, nearestIn}
+use Rattle.nearest.specs.Answers.{nearestFor, nearestAnswer}
+use Rattle.nearest.proofs.LeastLaws.{least-of}
+use Rattle.nearest.proofs.Theorems.{least-is}
+use Rattle.exact.specs.Whole.{PointZ}
+use Rattle.exact.specs.Grid.{PointOn, OutlineOn}
+use Rattle.exact.specs.OneOutline.{GridExact}
+use Rattle.exact.proofs.OneOutline.{grid-exact}
+use Rattle.exact.proofs.Tests.{grid-in-field}
+use Rattle.demand.specs.Demand.{OutlineExact, NearestLeast, Demand3}
+use Rattle.demand.proofs.OutlineLaws.{outline-passes, outline-on}
+
+module _ (v : List Float) (cs : List ℕ) (passed : setTested v cs ≡ Passed) (some : 0 < length cs) (grid : OutlineOn v) {p : Point} {q : PointZ} (on : PointOn p q) where
+  -- the distance that the call answers is the one whose magnitude is taken
+  magnitude-is : (k : ℕ) → k < length cs → (d : Distance) → distanceAnswer (outlineAt v cs k) p ≡ Away d → magnitudeAt v cs p k ≡ absOf (d .d)
+  unfolding magnitudeOf distanceAnswer answerFor pointTested
+  magnitude-is k l d e =
+      let o = outlineAt v cs k in
+      let s = signedOf (nearestOf (edges o) p) p (containsOf (edges o) p) in
+      let f : distanceAnswer o p ≡ Away s = rw (outline-passes v cs passed k l, grid-in-field (on .x), grid-in-field (on .y)) in
+      let g : Away s ≡ Away d = sym f ∙ e in
+      let h : s ≡ d = cc in
+      ap (λ (x : Distance). absOf (x .d)) h
+
+  outline-exact : (k : ℕ) → k < length cs → OutlineExact (outlineAt v cs k) p q (magnitudeAt v cs p k)
+  outline-exact k l =
+      let g = grid-exact (outline-on v cs grid k) (outline-passes v cs passed k l) in
+      let d = g .distance on in
+      record {
+        whole = g .whole;
+        on = g .on;
+        area = _;
+        area-answer = g .area-answer;
+        area-exact = g .area;
+        location = g .location-answer on;
+        distance = d .signed;
+        distance-answer = d .answer;
+        distance-near = d .near;
+        magnitude-is = magnitude-is k l (d .signed) (d .answer);
+      }
+
+  -- a magnitude is a number
+  number : (k : ℕ) → k < length cs → T (not (isNan (magnitudeAt v cs p k)))
+  number k l =
+      let e = outline-exact k l in
+      let m = absOf (e .distance .d) in
+      rw (e .magnitude-is) (left-not-nan m (inf false) (below-le m (inf false) (below-infinity (abs-is (e .distance-near .is)))))
+
+  -- the query passes the tests
+  answered : (C : List Float) (L I : List ℕ) → shortIndex (length C) (length L) (length I) ≡ false → nearestAnswer v cs p C L I ≡ At (leastOf (magnitudeAt v cs p) (length cs))
+  unfolding nearestAnswer nearestFor setQueryTested roomTested pointTestedIn nearestIn
+  answered C L I short = rw (passed, grid-in-field (on .x), grid-in-field (on .y), short, ne-eqb (length cs) 0 (λ z. omega arith))
+
+  pub demand-3 : Demand3 v cs p q
+  demand-3 =
+      let best = leastOf (magnitudeAt v cs p) (length cs) in
+      record {
+        outlines = outline-exact;
+        nearest = record { best = best; answer = answered; is = least-is v cs p best (least-of (magnitudeAt v cs p) (length cs) some number) };
+      }

@@ -1,0 +1,12 @@
+-- Lent lists, as a call leaves them. Definitions only.
+use mathlib.Core.List.{List, _++_}
+use Prim.Native.Nat.{ℕ}
+use lib.ListN.{length, drop, replicate}
+
+-- xs from the front of the lent list on, and the places past the end unchanged
+unfoldable pub atFront : {A : Type 0} → List A → List A → List A
+atFront xs out = xs ++ drop (length xs) out
+
+-- n zeros
+abbrev pub zeros : {A : Type 0} → A → ℕ → List A
+zeros z n = replicate n z

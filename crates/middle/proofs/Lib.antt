@@ -1,0 +1,1 @@
+-- The guess has no laws: nothing is promised of it but that it ends and stays within its lists.

@@ -1,0 +1,306 @@
+-- THE RUST'S WALK gives the *nearest answer*. Assumes nothing.
+use mathlib.Core.Path.{_≡_, refl, sym, ap, subst}
+use mathlib.Core.Bool.{Bool, true, false, not, cond, _&&_, _||_}
+use mathlib.Core.List.{List, [], _∷_, _++_}
+use Prim.Native.Nat.{ℕ, zero, suc, _+_, _-_, _≤_, _<_}
+use native.Mathlib.Decide.{ℕ-discrete}
+use native.Mathlib.Omega.{arith}
+use borrow.Author.Tests.{eqb-false}
+use lib.Dec.{T, eqb, ltb}
+use lib.ListN.{length}
+use lib.Ieee.{Float, lt, le, eq, isNan}
+use lib.Ieee.Bits.{is-true}
+use Rattle.number.specs.Signs.{signBit}
+use Rattle.number.proofs.OrderLaws.{le-through, below-through, below-le, below-not-le, not-below, level-le}
+use Rattle.boundary.specs.declared.Point.{Point}
+use Rattle.boundary.specs.declared.Bounds.{Bounds}
+use Rattle.boundary.specs.Boxes.{FieldPoint, gapOf}
+use Rattle.boundary.specs.Folds.{fold}
+use Rattle.sorts.specs.Keys.{totalLess}
+use Rattle.sorts.specs.Sort.{times, In}
+use Rattle.sorts.proofs.SortLaws.{times-append}
+use Rattle.index.specs.Tree.{Tree, leaf, inner, indexOf, itemsOf, EachNode}
+use Rattle.index.specs.Layout.{extra}
+use Rattle.index.proofs.HullLaws.{Number, in-cons, in-first, in-rest}
+use Rattle.index.proofs.Theorems.{items-once}
+use Rattle.set.specs.Set.{setBoxes, Fit}
+use Rattle.set.proofs.SetLaws.{boxes-length}
+use Rattle.nearest.specs.declared.Best.{Best}
+use Rattle.nearest.specs.declared.Nearest.{Nearest}
+use Rattle.nearest.specs.declared.Nearest.the-variants.{Refused, None, At}
+use Rattle.nearest.specs.Nearest.{magnitudeAt, leastOf, nearestIn}
+use Rattle.nearest.specs.Walk.{improved, bestOf, Doubles}
+use Rattle.nearest.specs.Rust.{Waiting, boxIn, waitingFor, sooner, Out, leastOut, chosen, looked, opened, tooFar, walkOn, walkOf}
+use Rattle.nearest.proofs.LeastLaws.{Upto, Among, among-this, upto-this, best-is, least-of, least-only}
+use Rattle.nearest.proofs.GapLaws.{Gapped, Nearby, magnitude-number, index-gaps}
+use Rattle.nearest.proofs.SetSearch.{gap-number}
+
+-- ---- lists of nodes that wait: what holds of each, and sums
+data All (P : Waiting → Type 0) : List Waiting → Type 0 where
+  none : All P []
+  more : {x : Waiting} {xs : List Waiting} → P x → All P xs → All P (x ∷ xs)
+
+unfoldable sum : (Waiting → ℕ) → List Waiting → ℕ
+sum w [] = 0
+sum w (x ∷ xs) = w x + sum w xs
+
+sum-append : (w : Waiting → ℕ) (xs ys : List Waiting) → sum w (xs ++ ys) ≡ sum w xs + sum w ys
+unfolding sum
+sum-append w [] ys = omega arith
+sum-append w (x ∷ xs) ys = let h = sum-append w xs ys in omega arith
+
+all-append : {P : Waiting → Type 0} (xs ys : List Waiting) → All P xs → All P ys → All P (xs ++ ys)
+all-append [] ys none q = q
+all-append (x ∷ xs) ys (more p ps) q = more p (all-append xs ys ps q)
+
+all-map : {P Q : Waiting → Type 0} (xs : List Waiting) → ((x : Waiting) → P x → Q x) → All P xs → All Q xs
+all-map [] f none = none
+all-map (x ∷ xs) f (more p ps) = more (f x p) (all-map xs f ps)
+
+all-both : (P Q : Waiting → Type 0) (ys : List Waiting) → All P ys → All Q ys → All (λ y. P y × Q y) ys
+all-both P Q [] none none = none
+all-both P Q (y ∷ ys) (more p ps) (more q qs) = more (p, q) (all-both P Q ys ps qs)
+
+-- a sum is positive where one of its parts is
+sum-some : {P : Waiting → Type 0} (w : Waiting → ℕ) (xs : List Waiting) (A : Type 0) → ((x : Waiting) → P x → 0 < w x → A) → All P xs → 0 < sum w xs → A
+unfolding sum
+sum-some w [] A f none h = absurd (omega arith)
+sum-some w (x ∷ xs) A f (more p ps) h = go (ℕ-discrete (w x) 0) (sum-some w xs A f ps)
+  where
+    go : Dec (w x ≡ 0) → (0 < sum w xs → A) → A
+    go (yes e) ih = ih (omega arith)
+    go (no a) ih = f x p (omega arith)
+
+-- ---- the least is taken out
+or-false : (a b : Bool) → (a || b) ≡ false → a ≡ false
+or-false false b e = refl
+or-false true b e = absurd (subst T e tt)
+
+not-totally : (x y : Float) → Number x → Number y → totalLess x y ≡ false → T (le y x)
+unfolding totalLess
+not-totally x y X Y e = not-below x y X Y (or-false (lt x y) _ e)
+
+totally-le : (x y : Float) → Number x → Number y → totalLess x y ≡ true → T (le x y)
+unfolding totalLess
+totally-le x y X Y h = go (lt x y) refl (eq x y) refl (isNan y) refl (isNan x) h
+  where
+    go : (a : Bool) → lt x y ≡ a → (b : Bool) → eq x y ≡ b → (c : Bool) → isNan y ≡ c → (d : Bool) → (a || ((b && (signBit x && not (signBit y))) || (not d && c))) ≡ true → T (le x y)
+    go true e b f c g d h = below-le x y e
+    go false e true f c g d h = level-le x y f
+    go false e false f true g d h = absurd (subst (λ (t : Bool). T (not t)) g Y)
+    go false e false f false g true h = absurd (subst T (sym h) tt)
+    go false e false f false g false h = absurd (subst T (sym h) tt)
+
+sooner-le : (a b : Waiting) → Number (a .gap) → Number (b .gap) → sooner a b ≡ true → T (le (a .gap) (b .gap))
+sooner-le a b A B h = go (totalLess (a .gap) (b .gap)) refl (totalLess (b .gap) (a .gap)) refl h
+  where
+    go : (s : Bool) → totalLess (a .gap) (b .gap) ≡ s → (t : Bool) → totalLess (b .gap) (a .gap) ≡ t → (s || (not t && ltb (a .node) (b .node))) ≡ true → T (le (a .gap) (b .gap))
+    go true e t f h = totally-le (a .gap) (b .gap) A B e
+    go false e true f h = absurd (subst T (sym h) tt)
+    go false e false f h = not-totally (b .gap) (a .gap) B A f
+
+sooner-not : (a b : Waiting) → Number (a .gap) → Number (b .gap) → sooner a b ≡ false → T (le (b .gap) (a .gap))
+sooner-not a b A B h = not-totally (a .gap) (b .gap) A B (or-false (totalLess (a .gap) (b .gap)) _ h)
+
+record OutIs (P : Waiting → Type 0) (x : Waiting) (xs : List Waiting) (o : Out) : Type 0 where
+  first : P (o .first)
+  rest : All P (o .rest)
+  least : All (λ y. T (le (o .first .gap) (y .gap))) (o .rest)
+  sums : (w : Waiting → ℕ) → w (o .first) + sum w (o .rest) ≡ w x + sum w xs
+
+out-is : (P : Waiting → Type 0) → ((y : Waiting) → P y → Number (y .gap)) → (x : Waiting) (xs : List Waiting) → P x → All P xs → OutIs P x xs (leastOut x xs)
+unfolding leastOut sum
+out-is P N x [] p none = record { first = p; rest = none; least = none; sums = λ w. refl }
+out-is P N x (y ∷ ys) p (more q qs) = go (leastOut y ys) (out-is P N y ys q qs) (sooner (leastOut y ys .first) x) refl
+  where
+    go : (o : Out) → OutIs P y ys o → (s : Bool) → sooner (o .first) x ≡ s → OutIs P x (y ∷ ys) (cond s (record { first = o .first; rest = x ∷ o .rest }) (record { first = x; rest = o .first ∷ o .rest }))
+    go o i true e = record {
+      first = i .first;
+      rest = more p (i .rest);
+      least = more (sooner-le (o .first) x (N (o .first) (i .first)) (N x p) e) (i .least);
+      sums = λ w. let h = i .sums w in omega arith;
+    }
+    go o i false e =
+        let l = sooner-not (o .first) x (N (o .first) (i .first)) (N x p) e in
+        record {
+          first = p;
+          rest = more (i .first) (i .rest);
+          least = more l (all-map (o .rest) (λ y h. le-through (x .gap) (o .first .gap) (y .gap) l h) (i .least));
+          sums = λ w. let h = i .sums w in omega arith;
+        }
+
+-- ---- the walk
+each-root : (P : Bounds → List ℕ → Type 0) (t : Tree) → EachNode P t → P (boxIn t) (itemsOf t)
+unfolding EachNode itemsOf
+each-root P (leaf b is) h = h
+each-root P (inner b l r) h = h .0
+
+abbrev sizeOf : Waiting → ℕ
+sizeOf x = 1 + extra (x .tree)
+
+abbrev hasOf : ℕ → Waiting → ℕ
+hasOf i x = times i (itemsOf (x .tree))
+
+module _ (D : ℕ → Float) (n : ℕ) (p : Point) where
+  record Good (x : Waiting) : Type 0 where
+    gap : x .gap ≡ gapOf (boxIn (x .tree)) p
+    near : EachNode (Nearby D n p) (x .tree)
+
+  good-number : (x : Waiting) → Good x → Number (x .gap)
+  good-number x g = rw (g .gap) (gap-number (boxIn (x .tree)) p)
+
+  good-gap : (x : Waiting) → Good x → (i : ℕ) → 0 < hasOf i x → Gapped D n p (boxIn (x .tree)) i
+  good-gap x g i h = each-root (Nearby D n p) (x .tree) (g .near) i h
+
+  good-le : (x : Waiting) → Good x → (i : ℕ) → 0 < hasOf i x → T (le (x .gap) (D i))
+  good-le x g i h = rw (g .gap) (good-gap x g i h .gap)
+
+  -- the best so far is an outline's, and it is at most the i-th
+  abbrev State : Nearest → Type 0
+  State None = T true
+  State (At b) = Among D (n - 1) b
+  State (Refused r) = ⊥
+
+  abbrev Seen : Nearest → ℕ → Type 0
+  Seen None i = ⊥
+  Seen (At b) i = Upto D b i
+  Seen (Refused r) i = ⊥
+
+  record Walking (f : ℕ) (ws : List Waiting) (best : Nearest) : Type 0 where
+    turns : sum sizeOf ws ≤ f
+    good : All Good ws
+    state : State best
+    cover : (i : ℕ) → i < n → sum (hasOf i) ws ≡ 0 → Seen best i
+
+  module _ (some : 0 < n) (N : (k : ℕ) → k < n → Number (D k)) where
+    numbers : (k : ℕ) → k ≤ n - 1 → Number (D k)
+    numbers k l = N k (omega arith)
+
+    -- ---- a leaf's items
+    record Looked (best : Nearest) (is : List ℕ) (r : Nearest) : Type 0 where
+      state : State r
+      new : (i : ℕ) → In i is → Seen r i
+      old : (i : ℕ) → Seen best i → Seen r i
+
+    looked-at : (is : List ℕ) (b : Best) → fold (chosen D) (At b) is ≡ At (bestOf D b is)
+    unfolding fold bestOf
+    looked-at [] b = refl
+    looked-at (k ∷ ks) b = looked-at ks (improved b k (D k))
+
+    looked-some : (is : List ℕ) (b : Best) → Among D (n - 1) b → ((i : ℕ) → In i is → i < n) → Looked (At b) is (fold (chosen D) (At b) is)
+    looked-some is b B h =
+        let r = best-is D (n - 1) numbers is (λ i k. let l = h i k in omega arith) b B in
+        rw (looked-at is b) (record { state = r .among; new = r .new; old = r .old })
+
+    looked-is : (is : List ℕ) (best : Nearest) → State best → ((i : ℕ) → In i is → i < n) → Looked best is (fold (chosen D) best is)
+    unfolding fold times
+    looked-is is (Refused r) s h = absurd s
+    looked-is is (At b) s h = looked-some is b s h
+    looked-is [] None s h = record { state = s; new = λ i k. absurd (omega arith); old = λ i u. u }
+    looked-is (k ∷ ks) None s h =
+        let l = h k (in-first k ks) in
+        let b : Best = record { outline = k; distance = D k } in
+        let r = looked-some ks b (among-this D (n - 1) k (omega arith)) (λ i j. h i (in-rest i k ks j)) in
+        record {
+          state = r .state;
+          new = in-cons (λ i. Seen (fold (chosen D) (At b) ks) i) k ks (r .old k (upto-this D k (N k l))) (r .new);
+          old = λ i u. absurd u;
+        }
+
+    -- ---- one turn
+    turn : (f : ℕ) (t : Tree) (next : ℕ) (rest : List Waiting) (best : Nearest) → EachNode (Nearby D n p) t → All Good rest → State best
+        → ((i : ℕ) → i < n → times i (itemsOf t) + sum (hasOf i) rest ≡ 0 → Seen best i) → 1 + extra t + sum sizeOf rest ≤ suc f
+        → Walking f (rest ++ opened p next t) (looked D best t)
+    unfolding EachNode itemsOf extra opened looked sum
+    turn f (leaf b is) next rest best E G S C F =
+        let l = looked-is is best S (λ i h. E i h .within) in
+        record {
+          turns = let a = sum-append sizeOf rest [] in omega arith;
+          good = all-append rest [] G none;
+          state = l .state;
+          cover = λ i h z. let a = sum-append (hasOf i) rest [] in go i h l (omega arith) (ℕ-discrete (times i is) 0);
+        }
+      where
+        go : (i : ℕ) → i < n → Looked best is (fold (chosen D) best is) → sum (hasOf i) rest ≡ 0 → Dec (times i is ≡ 0) → Seen (fold (chosen D) best is) i
+        go i h l z (yes e) = l .old i (C i h (omega arith))
+        go i h l z (no a) = l .new i (omega arith)
+    turn f (inner b l r) next rest best E G S C F =
+        let x = waitingFor p next (next + 2) l in
+        let y = waitingFor p (next + 1) (next + 2 + extra l) r in
+        record {
+          turns = let a = sum-append sizeOf rest (x ∷ y ∷ []) in omega arith;
+          good = all-append rest (x ∷ y ∷ []) G (more {x = x} (record { gap = refl; near = E .1 }) (more {x = y} (record { gap = refl; near = E .2 }) none));
+          state = S;
+          cover = λ i h z. let a = sum-append (hasOf i) rest (x ∷ y ∷ []) in let c = times-append i (itemsOf l) (itemsOf r) in C i h (omega arith);
+        }
+
+    -- ---- the end
+    all-seen : (best : Nearest) → State best → ((i : ℕ) → i < n → Seen best i) → best ≡ At (leastOf D n)
+    all-seen None s u = absurd (u 0 some)
+    all-seen (Refused r) s u = absurd s
+    all-seen (At b) s u = let w = s .within in ap At (least-only D n b (leastOf D n) (record { within = omega arith; is = s .is; upto = u }) (least-of D n some N))
+
+    -- the least gap is above the best
+    far-seen : (best : Nearest) (x : Waiting) (xs : List Waiting) (o : Out) → OutIs Good x xs o → ((i : ℕ) → i < n → sum (hasOf i) (x ∷ xs) ≡ 0 → Seen best i) → tooFar best (o .first .gap) ≡ true → (i : ℕ) → i < n → Seen best i
+    unfolding sum
+    far-seen None x xs o O C e i l = absurd (subst T (sym e) tt)
+    far-seen (Refused r) x xs o O C e i l = absurd (subst T (sym e) tt)
+    far-seen (At b) x xs o O C e i l = go (ℕ-discrete (hasOf i (o .first)) 0) (ℕ-discrete (sum (hasOf i) (o .rest)) 0)
+      where
+        farther : T (le (o .first .gap) (D i)) → Upto D b i
+        farther h =
+            let q = below-through (b .distance) (o .first .gap) (D i) (subst T (sym e) tt) h in
+            record { least = below-le (b .distance) (D i) (is-true (lt (b .distance) (D i)) q); first = λ u. absurd (below-not-le (b .distance) (D i) q u) }
+
+        go : Dec (hasOf i (o .first) ≡ 0) → Dec (sum (hasOf i) (o .rest) ≡ 0) → Upto D b i
+        go (no a) d = farther (good-le (o .first) (O .first) i (omega arith))
+        go (yes z) (yes y) = C i l (let s = O .sums (hasOf i) in omega arith)
+        go (yes z) (no a) = sum-some (hasOf i) (o .rest) (Upto D b i) (λ y h k. farther (le-through (o .first .gap) (y .gap) (D i) (h .1) (good-le y (h .0) i k))) (all-both Good (λ y. T (le (o .first .gap) (y .gap))) (o .rest) (O .rest) (O .least)) (omega arith)
+
+    walk-turn : (f : ℕ) (x : Waiting) (xs : List Waiting) (best : Nearest) (o : Out) → OutIs Good x xs o → Walking (suc f) (x ∷ xs) best
+        → ((ws : List Waiting) (b : Nearest) → Walking f ws b → walkOn f D p ws b ≡ At (leastOf D n))
+        → (t : Bool) → tooFar best (o .first .gap) ≡ t → cond t best (walkOn f D p (o .rest ++ opened p (o .first .next) (o .first .tree)) (looked D best (o .first .tree))) ≡ At (leastOf D n)
+    unfolding sum
+    walk-turn f x xs best o O W ih true e = all-seen best (W .state) (far-seen best x xs o O (W .cover) e)
+    walk-turn f x xs best o O W ih false e =
+        ih (o .rest ++ opened p (o .first .next) (o .first .tree)) (looked D best (o .first .tree))
+        (turn f (o .first .tree) (o .first .next) (o .rest) best (O .first .near) (O .rest) (W .state)
+        (λ i l z. W .cover i l (let s = O .sums (hasOf i) in omega arith)) (let s = O .sums sizeOf in let u = W .turns in omega arith))
+
+    walk-on : (f : ℕ) (ws : List Waiting) (best : Nearest) → Walking f ws best → walkOn f D p ws best ≡ At (leastOf D n)
+    unfolding walkOn sum
+    walk-on zero [] best W = all-seen best (W .state) (λ i l. W .cover i l refl)
+    walk-on zero (x ∷ xs) best W = let u = W .turns in absurd (omega arith)
+    walk-on (suc f) [] best W = all-seen best (W .state) (λ i l. W .cover i l refl)
+    walk-on (suc f) (x ∷ xs) best W = walk-turn f x xs best (leastOut x xs) (out (W .good)) W (walk-on f) (tooFar best (leastOut x xs .first .gap)) refl
+      where
+        out : All Good (x ∷ xs) → OutIs Good x xs (leastOut x xs)
+        out (more q qs) = out-is Good good-number x xs q qs
+
+-- ---- over a set
+module _ (v : List Float) (cs : List ℕ) (p : Point) (fit : Fit v cs) (held : Doubles v) (P : FieldPoint p) where
+  abbrev t : Tree
+  t = indexOf (setBoxes v cs)
+
+  root-walking : 0 < length cs → Walking (magnitudeAt v cs p) (length cs) p (1 + extra t) (waitingFor p 0 1 t ∷ []) None
+  unfolding sum
+  root-walking s = record {
+    turns = omega arith;
+    good = more (record { gap = refl; near = index-gaps v cs p fit held P s }) none;
+    state = tt;
+    cover = λ i l z. let n = boxes-length v cs in let o = items-once (setBoxes v cs) i .0 (omega arith) in absurd (omega arith);
+  }
+
+  -- THE WALK gives the nearest answer
+  pub walk-is : walkOf v cs p ≡ nearestIn v cs p
+  unfolding walkOf nearestIn
+  walk-is = go (eqb (length cs) 0) refl
+    where
+      above : (n : ℕ) → (n ≡ 0 → ⊥) → 0 < n
+      above n h = omega arith
+
+      go : (b : Bool) → eqb (length cs) 0 ≡ b → cond b None (walkOn (1 + extra t) (magnitudeAt v cs p) p (waitingFor p 0 1 t ∷ []) None) ≡ cond b None (At (leastOf (magnitudeAt v cs p) (length cs)))
+      go true e = refl
+      go false e =
+          let s = above (length cs) (eqb-false (length cs) 0 e) in
+          walk-on (magnitudeAt v cs p) (length cs) p s (λ k l. magnitude-number v cs p fit held P k (omega arith)) (1 + extra t) (waitingFor p 0 1 t ∷ []) None (root-walking s)

@@ -1,0 +1,10 @@
+-- What the nearest query promises. Definitions only.
+
+-- The nearest outline of a set.
+pub mod Nearest
+-- The search: what it reads, and how it takes the better of two.
+pub mod Walk
+-- What the call answers and leaves.
+pub mod Answers
+-- The walk in the Rust's own names and order.
+pub mod Rust

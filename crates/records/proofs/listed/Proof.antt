@@ -1,0 +1,68 @@
+-- `records::listed` meets its contract. Assumes nothing.
+use Rattle.records.proofs.RecordLaws.{listed-more}
+use Rattle.records.specs.Records.{nodeIn}
+use Rattle.boundary.specs.Folds.{run}
+use lib.ListN.{length, take, length-set}
+use Prim.Native.Nat.{_≤_, _-_}
+use mathlib.Core.Path.{_≡_, refl}
+use native.Mathlib.Nat.{le-antisymm}
+use native.Mathlib.Omega.{arith}
+use borrow.Author.Needs.{needs}
+use Rattle.records.proofs.listed.Statement.{statement}
+use Rattle.records.proofs.listed.Tie as tie
+
+abbrev Inv-loop : tie.InvT-loop
+Inv-loop corners links n list₀ i₀ list i = (i ≤ n) × (length list ≡ 511) × (take i list ≡ run (nodeIn corners links) 0 i)
+
+abbrev μ-loop : tie.MeasureT-loop
+μ-loop corners links n list₀ i₀ list i = n - i
+
+blank-requires : tie.Need-blank-requires Inv-loop μ-loop
+blank-requires c κs = search needs
+
+loop-holds : tie.Need-loop-holds Inv-loop μ-loop
+unfolding run
+loop-holds c = (search needs, c .blank .ensures, refl)
+
+node-in-requires : tie.Need-node-in-requires Inv-loop μ-loop
+node-in-requires c κs = search needs
+
+mul-list : tie.Need-mul-list Inv-loop μ-loop
+mul-list c = search needs
+
+array-set-from-list : tie.Need-array-set-from-list Inv-loop μ-loop
+array-set-from-list c = search needs
+
+add-i : tie.Need-add-i Inv-loop μ-loop
+add-i c = search needs
+
+loop-less : tie.Need-loop-less Inv-loop μ-loop
+loop-less c = search needs
+
+loop-again : tie.Need-loop-again Inv-loop μ-loop
+loop-again c =
+    let v = c .before .before .loop .inv in
+    let h = c .before .loop-test .taken in
+    let m = c .before .before .before .before .before .before .pre in
+    (search needs, rw length-set (v .1), listed-more _ _ _ _ (omega arith) (c .node-in .ensures) (v .2))
+
+returns : tie.Need-returns Inv-loop μ-loop
+returns c =
+    let v = c .before .loop .inv in
+    (v .1, rw (le-antisymm (v .0) (c .loop-test .left)) at (v .2))
+
+pub listed-spec : {M : Type 1} → statement M
+listed-spec =
+    tie.close
+    (tie.spec
+    Inv-loop
+    μ-loop
+    blank-requires
+    loop-holds
+    node-in-requires
+    mul-list
+    array-set-from-list
+    add-i
+    loop-less
+    loop-again
+    returns)

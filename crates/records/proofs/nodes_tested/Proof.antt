@@ -1,0 +1,19 @@
+-- `records::nodes_tested` meets its contract. Assumes nothing.
+use Rattle.records.specs.Records.{nodesTested}
+use borrow.Author.Needs.{needs}
+use Rattle.records.proofs.nodes_tested.Statement.{statement}
+use Rattle.records.proofs.nodes_tested.Tie as tie
+
+boxes-tested-requires : tie.Need-boxes-tested-requires
+boxes-tested-requires c κs = search needs
+
+room-tested-requires : tie.Need-room-tested-requires
+room-tested-requires c κs = search needs
+
+returns : tie.Need-returns
+unfolding nodesTested
+returns c = rw (c .room-tested .ensures, c .before .boxes-tested .ensures)
+
+pub nodes-tested-spec : {M : Type 1} → statement M
+nodes-tested-spec =
+    tie.close (tie.spec boxes-tested-requires room-tested-requires returns)

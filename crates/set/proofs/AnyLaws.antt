@@ -1,0 +1,42 @@
+-- Whether some member passes a test: over two lists one after the other, and where no member does. Assumes nothing.
+use mathlib.Core.Path.{_≡_, refl, sym, ap, _∙_}
+use mathlib.Core.Bool.{Bool, true, false, _||_}
+use mathlib.Core.List.{List, [], _∷_, _++_}
+use Prim.Native.Nat.{ℕ, suc, _+_, _<_}
+use native.Mathlib.Omega.{arith}
+use lib.ListN.{length, getD, drop}
+use Rattle.boundary.specs.Folds.{fold, any}
+use Rattle.boundary.proofs.FoldLaws.{fold-drop-next}
+
+module _ {A : Type 0} (p : A → Bool) where
+  -- with what was found before
+  pub any-from : (b : Bool) (xs : List A) → fold (λ c x. c || p x) b xs ≡ (b || any p xs)
+  unfolding fold any
+  any-from true [] = refl
+  any-from false [] = refl
+  any-from true (x ∷ xs) = any-from true xs
+  any-from false (x ∷ xs) = refl
+
+  pub any-append : (xs ys : List A) → any p (xs ++ ys) ≡ (any p xs || any p ys)
+  unfolding fold any
+  any-append [] ys = refl
+  any-append (x ∷ xs) ys = go (p x) (any-append xs ys)
+    where
+      go : (b : Bool) → any p (xs ++ ys) ≡ (any p xs || any p ys) → fold (λ c x. c || p x) b (xs ++ ys) ≡ (fold (λ c x. c || p x) b xs || any p ys)
+      go true e = any-from true (xs ++ ys) ∙ sym (ap (λ (c : Bool). c || any p ys) (any-from true xs))
+      go false e = e
+
+  pub none-of : (d : A) (xs : List A) → ((i : ℕ) → i < length xs → p (getD xs i d) ≡ false) → any p xs ≡ false
+  unfolding fold any
+  none-of d [] h = refl
+  none-of d (x ∷ xs) h = rw (h 0 (omega arith)) (none-of d xs (λ i l. h (suc i) (omega arith)))
+
+  -- a search from the first member on: member i passes, or the search goes on
+  abbrev pub step : Bool → A → Bool
+  step b x = b || p x
+
+  pub found-at : (d : A) (xs : List A) (i : ℕ) → i < length xs → fold step false (drop i xs) ≡ any p xs → p (getD xs i d) ≡ true → true ≡ any p xs
+  found-at d xs i l e h = sym (ap (λ (b : Bool). fold step b (drop (i + 1) xs)) h ∙ any-from true (drop (i + 1) xs)) ∙ sym (fold-drop-next step d false xs i l) ∙ e
+
+  pub missed-at : (d : A) (xs : List A) (i : ℕ) → i < length xs → fold step false (drop i xs) ≡ any p xs → p (getD xs i d) ≡ false → fold step false (drop (i + 1) xs) ≡ any p xs
+  missed-at d xs i l e h = sym (ap (λ (b : Bool). fold step b (drop (i + 1) xs)) h) ∙ sym (fold-drop-next step d false xs i l) ∙ e

@@ -1,0 +1,95 @@
+-- The least number of a test that some member does not pass is the first test that any member does not pass, so one pass over the outlines says what the tests say one after the other. Assumes nothing.
+use mathlib.Core.Path.{_≡_, refl, ap, _∙_}
+use mathlib.Core.Bool.{Bool, true, false, cond, _||_}
+use mathlib.Core.List.{List, [], _∷_}
+use Prim.Native.Nat.{ℕ, _≤_, min}
+use native.Mathlib.Omega.{arith}
+use lib.Ieee.{Float}
+use Rattle.boundary.specs.Folds.{fold, any}
+use Rattle.geometry.specs.declared.Refusal.the-variants.{NotFinite, OutsideField, EqualNeighbours, ZeroArea, NegativeArea}
+use Rattle.geometry.specs.Refusals.{areaTested, edgesTested, valuesTested, signTested}
+use Rattle.index.specs.declared.Test.the-variants.{Passed, Failed}
+use Rattle.set.specs.Tests.{notFinite, outsideField, equalNeighbours, zeroArea, negativeArea, outlinesTested}
+use Rattle.set.specs.OnePass.{firstFailed, leastFailed, testAt, rankOf}
+
+-- test k, before those of which f gives the first: no number of these is less
+module _ {A : Type 0} (q : A → Bool) (f : A → ℕ) (k : ℕ) (above : (x : A) → k ≤ f x) where
+  two : (x : A) (b c : Bool) (m : ℕ) → k ≤ m → min (cond b k m) (cond c k (f x)) ≡ cond (b || c) k (min m (f x))
+  two x true true m h = omega arith
+  two x true false m h = let a = above x in omega arith
+  two x false true m h = omega arith
+  two x false false m h = refl
+
+  least-from : (b : Bool) (m : ℕ) (xs : List A) → k ≤ m → fold (λ n x. min n (cond (q x) k (f x))) (cond b k m) xs ≡ cond (fold (λ c x. c || q x) b xs) k (fold (λ n x. min n (f x)) m xs)
+  unfolding fold
+  least-from b m [] h = refl
+  least-from b m (x ∷ xs) h =
+      let a = above x in
+      ap (λ (n : ℕ). fold (λ n x. min n (cond (q x) k (f x))) n xs) (two x b (q x) m h) ∙ least-from (b || q x) (min m (f x)) xs (omega arith)
+
+  -- THE FIRST FAILING TEST: test k where some member does not pass it, and else what the later tests say
+  pub least-first : (m : ℕ) (xs : List A) → k ≤ m → fold (λ n x. min n (cond (q x) k (f x))) m xs ≡ cond (any q xs) k (fold (λ n x. min n (f x)) m xs)
+  unfolding any
+  least-first m xs h = least-from false m xs h
+
+least-none : {A : Type 0} (m : ℕ) (xs : List A) → fold (λ n x. min n m) m xs ≡ m
+unfolding fold
+least-none m [] = refl
+least-none m (x ∷ xs) = let e : min m m ≡ m = omega arith in rw e (least-none m xs)
+
+at-least : (b : Bool) (k n m : ℕ) → k ≤ n → k ≤ m → k ≤ cond b n m
+at-least true k n m h l = h
+at-least false k n m h l = l
+
+-- ---- the five tests
+abbrev from9 : List Float → ℕ
+from9 o = cond (negativeArea o) 9 10
+
+abbrev from8 : List Float → ℕ
+from8 o = cond (zeroArea o) 8 (from9 o)
+
+abbrev from7 : List Float → ℕ
+from7 o = cond (equalNeighbours o) 7 (from8 o)
+
+abbrev from6 : List Float → ℕ
+from6 o = cond (outsideField o) 6 (from7 o)
+
+least-is : (os : List (List Float)) → leastFailed os ≡ cond (any notFinite os) 5 (cond (any outsideField os) 6 (cond (any equalNeighbours os) 7 (cond (any zeroArea os) 8 (cond (any negativeArea os) 9 10))))
+unfolding leastFailed firstFailed
+least-is os =
+    let nine : (k : ℕ) → k ≤ 9 → (o : List Float) → k ≤ from9 o = λ k h o. at-least (negativeArea o) k 9 10 h (omega arith) in
+    let eight : (k : ℕ) → k ≤ 8 → (o : List Float) → k ≤ from8 o = λ k h o. at-least (zeroArea o) k 8 (from9 o) h (nine k (omega arith) o) in
+    let seven : (k : ℕ) → k ≤ 7 → (o : List Float) → k ≤ from7 o = λ k h o. at-least (equalNeighbours o) k 7 (from8 o) h (eight k (omega arith) o) in
+    let six : (k : ℕ) → k ≤ 6 → (o : List Float) → k ≤ from6 o = λ k h o. at-least (outsideField o) k 6 (from7 o) h (seven k (omega arith) o) in
+    least-first notFinite from6 5 (six 5 (omega arith)) 10 os (omega arith)
+    ∙ ap (cond (any notFinite os) 5) (least-first outsideField from7 6 (seven 6 (omega arith)) 10 os (omega arith)
+    ∙ ap (cond (any outsideField os) 6) (least-first equalNeighbours from8 7 (eight 7 (omega arith)) 10 os (omega arith)
+    ∙ ap (cond (any equalNeighbours os) 7) (least-first zeroArea from9 8 (nine 8 (omega arith)) 10 os (omega arith)
+    ∙ ap (cond (any zeroArea os) 8) (least-first negativeArea (λ _. 10) 9 (λ _. omega arith) 10 os (omega arith)
+    ∙ ap (cond (any negativeArea os) 9) (least-none 10 os)))))
+
+pub least-tests : (os : List (List Float)) → testAt (leastFailed os) ≡ outlinesTested os
+unfolding outlinesTested
+least-tests os = ap testAt (least-is os) ∙ go (any notFinite os) (any outsideField os) (any equalNeighbours os) (any zeroArea os) (any negativeArea os)
+  where
+    go : (a b c d e : Bool) → testAt (cond a 5 (cond b 6 (cond c 7 (cond d 8 (cond e 9 10)))))
+        ≡ cond a (Failed NotFinite) (cond b (Failed OutsideField) (cond c (Failed EqualNeighbours) (cond d (Failed ZeroArea) (cond e (Failed NegativeArea) Passed))))
+    go true b c d e = unfold testAt in refl
+    go false true c d e = unfold testAt in refl
+    go false false true d e = unfold testAt in refl
+    go false false false true e = unfold testAt in refl
+    go false false false false true = unfold testAt in refl
+    go false false false false false = unfold testAt in refl
+
+-- one outline's number is that of what its tests say
+pub rank-first : (o : List Float) → rankOf (signTested (valuesTested o)) ≡ firstFailed o
+unfolding valuesTested edgesTested areaTested signTested firstFailed
+rank-first o = go (notFinite o) refl (outsideField o) refl (equalNeighbours o) refl (zeroArea o) refl (negativeArea o) refl
+  where
+    go : (a : Bool) → notFinite o ≡ a → (b : Bool) → outsideField o ≡ b → (c : Bool) → equalNeighbours o ≡ c → (d : Bool) → zeroArea o ≡ d → (e : Bool) → negativeArea o ≡ e → rankOf (signTested (valuesTested o)) ≡ firstFailed o
+    go true p b q c r d s e t = rw p
+    go false p true q c r d s e t = rw (p, q)
+    go false p false q true r d s e t = rw (p, q, r)
+    go false p false q false r true s e t = rw (p, q, r, s)
+    go false p false q false r false s true t = rw (p, q, r, s, t)
+    go false p false q false r false s false t = rw (p, q, r, s, t)

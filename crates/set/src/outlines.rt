@@ -1,0 +1,79 @@
+// The outlines of a set: where each begins, its box, and whether one of them contains a point.
+ghost use mathlib.Core.Path.{_≡_};
+ghost use Prim.Native.Nat.{_-_, _*_, _≤_, _<_, _^_};
+ghost use lib.ListN.{length, take, drop};
+ghost use lib.Seq.{sets};
+ghost use Rattle.boundary.specs.Folds.{run, any};
+ghost use Rattle.boundary.specs.Outline.{vertices, edges};
+ghost use Rattle.geometry.specs.Polygon.{boundsOf, containsOf};
+ghost use Rattle.index.specs.Entries.{boxNumbers};
+ghost use Rattle.set.specs.Set.{startOf, outlineAt, setBoxes};
+ghost use Rattle.set.specs.Answers.{Starts};
+use boundary::Point;
+use geometry::polygon;
+use index::entries;
+
+// How many vertices stand before each outline.
+pub fn put_starts(counts: &[u32], starts: &mut [u32])
+    requires { ⌜ startOf (now counts) (length (now counts)) ≤ 65536 ⌝ }
+    ensures { λ _. ⌜ now (starts .exit) ≡ sets (now (starts .entry)) 0 (run (startOf (now (counts .entry))) 0 (length (now (counts .entry)))) ⌝ }
+{
+    let mut sum = 0;
+    let mut k = 0;
+    while k < counts.len() {
+        sorts::put(starts, k, sum);
+        sum = sum + sorts::at(counts, k);
+        k += 1;
+    }
+}
+
+// Stores the box of the outline whose numbers stand from `at` to `end` as box k.
+fn put_box(v: &[f64], at: usize, end: usize, boxes: &mut [f64], k: usize)
+    requires { ⌜ (at ≤ end) × (end ≤ length (now v)) × (k < 2 ^ 32) ⌝ }
+    ensures { λ _. ⌜ now (boxes .exit) ≡ sets (now (boxes .entry)) (4 * k) (boxNumbers (boundsOf (vertices (take (end - at) (drop at (now (v .entry))))))) ⌝ }
+{
+    entries::put_box(boxes, k, polygon::box_of(&v[at..end]));
+}
+
+// The boxes of all outlines.
+pub fn put_boxes(v: &[f64], counts: &[u32], boxes: &mut [f64])
+    requires { ⌜ (length (now counts) ≤ 1024) × (2 * startOf (now counts) (length (now counts)) ≤ length (now v)) ⌝ }
+    ensures { λ _. ⌜ now (boxes .exit) ≡ sets (now (boxes .entry)) 0 (setBoxes (now (v .entry)) (now (counts .entry))) ⌝ }
+{
+    let mut at = 0;
+    let mut k = 0;
+    while k < counts.len() {
+        let end = at + 2 * (sorts::at(counts, k) as usize);
+        put_box(v, at, end, boxes, k);
+        at = end;
+        k += 1;
+    }
+}
+
+// Whether outline k contains p: past the last outline there is none.
+fn holds_at(v: &[f64], counts: &[u32], starts: &[u32], k: usize, p: Point) -> bool
+    requires { ⌜ (2 * startOf (now counts) (length (now counts)) ≤ length (now v)) × Starts (now counts) (now starts) ⌝ }
+    ensures { λ r. ⌜ r ≡ containsOf (edges (outlineAt (now (v .entry)) (now (counts .entry)) k)) p ⌝ }
+{
+    if k < counts.len() {
+        let at = 2 * (sorts::at(starts, k) as usize);
+        let end = at + 2 * (sorts::at(counts, k) as usize);
+        return polygon::holds(&v[at..end], p);
+    }
+    false
+}
+
+// Whether one of the outlines of the list does.
+pub fn any_holds(v: &[f64], counts: &[u32], starts: &[u32], list: &[u32], p: Point) -> bool
+    requires { ⌜ (2 * startOf (now counts) (length (now counts)) ≤ length (now v)) × Starts (now counts) (now starts) ⌝ }
+    ensures { λ r. ⌜ r ≡ any (λ k. containsOf (edges (outlineAt (now (v .entry)) (now (counts .entry)) k)) p) (now (list .entry)) ⌝ }
+{
+    let mut i = 0;
+    while i < list.len() {
+        if holds_at(v, counts, starts, sorts::at(list, i) as usize, p) {
+            return true;
+        }
+        i += 1;
+    }
+    false
+}

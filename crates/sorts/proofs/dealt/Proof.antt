@@ -1,0 +1,95 @@
+-- `sorts::dealt` meets its contract. Assumes nothing.
+use lib.ListN.{length}
+use Prim.Native.Nat.{_-_, _≤_}
+use Rattle.sorts.specs.Sort.{Dealt}
+use Rattle.sorts.specs.Keys.{ahead, keyIn}
+use native.Mathlib.Nat.{le-antisymm}
+use Rattle.sorts.proofs.PartLaws.{ahead-le, dealt-none, dealt-next}
+use borrow.Author.Needs.{needs}
+use Rattle.sorts.proofs.dealt.Statement.{statement}
+use Rattle.sorts.proofs.dealt.Tie as tie
+
+abbrev Inv-loop : tie.InvT-loop
+Inv-loop keys v x s₀ t₀ a₀ i₀ s t a i = (length s₀ ≤ length t₀) × Dealt (ahead (keyIn keys) v x) s₀ t₀ s t a i
+
+abbrev μ-loop : tie.MeasureT-loop
+μ-loop keys v x s₀ t₀ a₀ i₀ s t a i = length s - i
+
+loop-holds : tie.Need-loop-holds Inv-loop μ-loop
+loop-holds c = (c .before .before .before .pre, dealt-none _ _ _)
+
+at-requires : tie.Need-at-requires Inv-loop μ-loop
+at-requires c κs = search needs
+
+key-requires : tie.Need-key-requires Inv-loop μ-loop
+key-requires c κs = search needs
+
+is-ahead-requires : tie.Need-is-ahead-requires Inv-loop μ-loop
+is-ahead-requires c κs = search needs
+
+put-requires : tie.Need-put-requires Inv-loop μ-loop
+put-requires c κs = search needs
+
+sub-put : tie.Need-sub-put Inv-loop μ-loop
+sub-put c = search needs
+
+put-requires-2 : tie.Need-put-requires-2 Inv-loop μ-loop
+put-requires-2 c κs = search needs
+
+add-a : tie.Need-add-a Inv-loop μ-loop
+add-a c =
+    let d = c .before .before .before .before .before .before .before .before .before .before .before .before .before .loop .inv .1 in
+    let f = d .fewer in
+    let w = d .within in
+    let h = c .before .before .before .before .before .before .before .before .before .before .before .before .loop-test .taken in
+    let one : c .before .before .before .before .before .before .before .before .is-ahead .result ≤ 1 = rw (c .before .before .before .before .before .before .before .before .is-ahead .ensures) (ahead-le _ _ _ _) in
+    search needs
+
+add-i : tie.Need-add-i Inv-loop μ-loop
+add-i c = search needs
+
+loop-less : tie.Need-loop-less Inv-loop μ-loop
+loop-less c = search needs
+
+loop-again : tie.Need-loop-again Inv-loop μ-loop
+loop-again c =
+    let inv = c .before .before .before .before .before .before .before .before .before .before .before .before .before .loop .inv in
+    let p = c .before .before .before .before .before .before .put .ensures in
+    let q = c .before .before .put2 .ensures in
+    let y = c .before .before .before .before .before .before .before .before .before .before .at .ensures in
+    let k = c .before .before .before .before .before .before .before .before .before .key .ensures in
+    let b = c .before .before .before .before .before .before .before .before .is-ahead .ensures in
+    (inv .0, rw (q, p, b, k) (dealt-next _ _ _ _ _ _ _ _ _ _ (inv .1) (c .before .before .before .before .before .before .before .before .before .before .before .before .loop-test .taken) (inv .0) y))
+
+same-length : tie.Need-same-length Inv-loop μ-loop
+same-length c = search needs
+
+same-length-2 : tie.Need-same-length-2 Inv-loop μ-loop
+same-length-2 c = search needs
+
+returns : tie.Need-returns Inv-loop μ-loop
+returns c =
+    let d = c .before .loop .inv .1 in
+    let l = d .long in
+    rw (le-antisymm (d .within) (rw l at (c .loop-test .left))) at d
+
+pub dealt-spec : {M : Type 1} → statement M
+dealt-spec =
+    tie.close
+    (tie.spec
+    Inv-loop
+    μ-loop
+    loop-holds
+    at-requires
+    key-requires
+    is-ahead-requires
+    put-requires
+    sub-put
+    put-requires-2
+    add-a
+    add-i
+    loop-less
+    loop-again
+    same-length
+    same-length-2
+    returns)
