@@ -104,27 +104,20 @@ static void set_counts(void)
 {
     static const uint32_t few[] = { 4, 3 }, many[] = { 4, 5 }, none[] = { 4, 0, 4 }, two[] = { 6, 2 },
                           wrap[] = { 4, 4, 0xffffffffu, 1 }, uneven[] = { 3, 5 };
+    static const struct {
+        const uint32_t *counts;
+        size_t outlines;
+        uint32_t refusal;
+    } bad[] = { { few, 2, 2 },   { many, 2, 2 },  { wrap, 4, 2 }, { fours, 1, 2 },
+                { fours, 0, 2 }, { fours, 3, 2 }, { none, 3, 3 }, { two, 2, 3 } };
     query q = of(2, 7, 2);
     double distance, x, y;
-    q.counts = few;
-    test_set(20, q, stated, refused(2));
-    q.counts = many;
-    test_set(21, q, stated, refused(2));
-    q.counts = wrap;
-    q.outlines = 4;
-    test_set(22, q, stated, refused(2));
-    q.counts = fours;
-    q.outlines = 1;
-    test_set(23, q, stated, refused(2));
-    q.outlines = 0;
-    test_set(24, q, stated, refused(2));
-    q.outlines = 3;
-    test_set(25, q, stated, refused(2));
-    q.counts = none;
-    test_set(26, q, stated, refused(3));
-    q.counts = two;
-    q.outlines = 2;
-    test_set(27, q, stated, refused(3));
+    int i;
+    for (i = 0; i < 8; i++) {
+        q.counts = bad[i].counts;
+        q.outlines = bad[i].outlines;
+        test_set(20 + i, q, stated, refused(bad[i].refusal));
+    }
     /* a triangle, and a pentagon with the point inside */
     q.counts = uneven;
     expect_word("vk_outline_distance", 28, vk_outline_distance(three + 6, 10, 7, 2, &distance, &x, &y), 0);

@@ -49,6 +49,26 @@ fn rust_nearest(lists: &[Vec<Point>], p: Point) -> Option<(usize, f64)> {
     index.nearest(p, |k| polygons[k].distance(p).0.abs())
 }
 
+/// A row of the means over the points.
+fn row(
+    table: &mut Table,
+    (operation, n): (&str, usize),
+    points: &[[f64; 2]],
+    mut ours: impl FnMut([f64; 2]),
+    mut rust: impl FnMut(Point),
+) {
+    let (a, b) = times(
+        || black_box(points).iter().for_each(|p| ours(*p)),
+        || {
+            black_box(points)
+                .iter()
+                .for_each(|p| rust(Point::um(p[0], p[1])))
+        },
+    );
+    let calls = points.len() as f64;
+    table.row(operation, &format!("{n} outlines"), a / calls, b / calls);
+}
+
 pub fn rows(table: &mut Table) {
     let mut space = Space::new();
     for n in [16, 256, 1024] {
@@ -56,51 +76,26 @@ pub fn rows(table: &mut Table) {
         let vertices: Vec<f64> = lists.concat();
         let counts: Vec<u32> = lists.iter().map(|l| l.len() as u32 / 2).collect();
         let rust: Vec<Vec<Point>> = lists.iter().map(|l| geometry::points(l)).collect();
+        let set = || black_box((vertices.as_slice(), counts.as_slice()));
         let mut r = Random::new(2, "points");
         let side = (n as f64).sqrt() * 4.0;
         let mut at = || side * (r.digits() - 1.0);
         let points: Vec<[f64; 2]> = (0..POINTS).map(|_| [at(), at()]).collect();
-        let inputs = format!("{n} outlines");
-        let calls = POINTS as f64;
         let mut any = 0;
-        let (a, b) = times(
-            || {
-                for p in black_box(&points) {
-                    let set = (vertices.as_slice(), counts.as_slice());
-                    keep(library::set_any_at(
-                        black_box(set),
-                        *p,
-                        space.lent(),
-                        &mut any,
-                    ));
-                }
-            },
-            || {
-                for [x, y] in black_box(&points) {
-                    keep(rust_any_at(black_box(&rust), Point::um(*x, *y)));
-                }
-            },
+        row(
+            table,
+            ("any_at", n),
+            &points,
+            |p| keep(library::set_any_at(set(), p, space.lent(), &mut any)),
+            |p| keep(rust_any_at(black_box(&rust), p)),
         );
-        table.row("any_at", &inputs, a / calls, b / calls);
         let mut fields = (0, 0, 0.0);
-        let (a, b) = times(
-            || {
-                for p in black_box(&points) {
-                    let set = (vertices.as_slice(), counts.as_slice());
-                    keep(library::set_nearest(
-                        black_box(set),
-                        *p,
-                        space.lent(),
-                        &mut fields,
-                    ));
-                }
-            },
-            || {
-                for [x, y] in black_box(&points) {
-                    keep(rust_nearest(black_box(&rust), Point::um(*x, *y)));
-                }
-            },
+        row(
+            table,
+            ("nearest", n),
+            &points,
+            |p| keep(library::set_nearest(set(), p, space.lent(), &mut fields)),
+            |p| keep(rust_nearest(black_box(&rust), p)),
         );
-        table.row("nearest", &inputs, a / calls, b / calls);
     }
 }

@@ -55,6 +55,12 @@ module _ {A : Type 0} (p : A → Bool) where
   unfolding any
   any-at d xs i l e = fold-at d false xs i l e
 
+  -- and where one passed, some member does, whatever is left
+  pub fold-found : (xs : List A) → fold (λ c x. c || p x) true xs ≡ true
+  unfolding fold
+  fold-found [] = refl
+  fold-found (x ∷ xs) = fold-found xs
+
 or-weaker : (a b c d : Bool) → (b ≡ false → a ≡ false) → (d ≡ false → c ≡ false) → (b || d) ≡ false → (a || c) ≡ false
 or-weaker a false c false h k e = rw (h refl, k refl)
 or-weaker a false c true h k e = absurd (true≢false e)

@@ -4,17 +4,11 @@
 pub mod FoldLaws
 -- A run by its last member, and a run reversed.
 pub mod RunLaws
--- What the halving loop cites.
-pub mod HalveLaws
 -- Values of the field, and boxes of such.
 pub mod FieldLaws
 -- The nearest point of an edge lies between its ends, widened, of one axis.
 pub mod AlongLaws
 -- It lies in the widened box, and the gap is at most the distance.
 pub mod BoxLaws
--- The threshold that selects the normal, over the whole field.
-pub mod ClearLaws
--- The search for the nearest edge.
-pub mod SearchLaws
 -- What owning a point or an edge tells.
 pub mod KnownLaws

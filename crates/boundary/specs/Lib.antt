@@ -8,13 +8,5 @@ pub mod Outline
 pub mod Length
 -- The nearest point of a line.
 pub mod Line
--- The nearest point of an ellipse.
-pub mod Ellipse
--- A line or an ellipse.
-pub mod Piece
--- The signed distance.
-pub mod Nearest
--- How the nearest edge is found.
-pub mod Search
 -- The field, and boxes: widened, and how far a point is from one.
 pub mod Boxes

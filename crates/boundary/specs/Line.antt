@@ -1,6 +1,6 @@
 -- `Piece::nearest` of a line (document 01, boundary.rs). Definitions only.
 use mathlib.Core.Bool.{false, cond}
-use lib.IntN.{pos}
+use lib.IntN.{pos, negsuc}
 use lib.Ieee.{Float, fin, binary64, add, sub, mul, div, neg, lt, eq}
 use Rattle.number.specs.Exact.{zeroᶠ}
 use Rattle.number.specs.Root.{sqrtOf}
@@ -12,6 +12,13 @@ use Rattle.boundary.specs.declared.Near.{Near}
 
 abbrev pub one : Float
 one = fin false 1 (pos 0)
+
+abbrev pub half : Float
+half = fin false 1 (negsuc 0)
+
+-- half the sum
+abbrev pub middle : Float → Float → Float
+middle s0 s1 = mul binary64 half (add binary64 s0 s1)
 
 -- the edge's way from a to b, of each axis, and its squared length
 abbrev pub wayOf : Edge → Point
@@ -31,6 +38,10 @@ paramOf e p =
 -- the point at t between a and b, of one axis: t = 1 gives the far end itself
 unfoldable pub alongOf : Float → Float → Float → Float
 alongOf a b t = cond (eq t one) b (add binary64 a (mul binary64 t (sub binary64 b a)))
+
+-- the same as it works out, at t = 1 too. Inner: no export's promise speaks of it
+abbrev pub aheadOf : Float → Float → Float → Float
+aheadOf a b t = add binary64 a (mul binary64 t (sub binary64 b a))
 
 -- the nearest point
 unfoldable pub footOf : Edge → Point → Point

@@ -1,14 +1,12 @@
 // An outline's points and edges, and what boundary.rs works out from them.
-pub mod ellipse;
 pub mod line;
-pub mod nearest;
 
 ghost use mathlib.Core.Path.{_≡_};
 ghost use Prim.Native.Nat.{_<_};
 ghost use Rattle.boundary.specs.Boxes.{lesser, greater};
 ghost use Rattle.boundary.specs.Outline.{count, after, vertexAt, edgeAt, edges};
+ghost use Rattle.boundary.specs.Line.{middle};
 ghost use Rattle.boundary.specs.Length.{edgeLength, lengthOf};
-ghost use Rattle.boundary.specs.Piece.{pieceNear};
 
 // A point, in µm.
 #[repr(C)]
@@ -21,29 +19,6 @@ pub struct Point {
 pub struct Edge {
     pub a: Point,
     pub b: Point,
-}
-
-// A line with its two ends, x then y, or a whole ellipse with its centre and the semi-axes a along x and
-// b along y.
-pub enum Piece {
-    Line(f64, f64, f64, f64),
-    Ellipse { c: Point, a: f64, b: f64 },
-}
-
-impl Piece {
-    // The piece's point nearest to p, with its distance and a line's own normal.
-    pub fn nearest(self, p: Point) -> Near
-        ensures { λ r. ⌜ r ≡ pieceNear self p ⌝ }
-    {
-        match self {
-            Piece::Line(ax, ay, bx, by) => {
-                let a = Point { x: ax, y: ay };
-                let b = Point { x: bx, y: by };
-                line::line_nearest(Edge { a, b }, p)
-            }
-            Piece::Ellipse { c, a, b } => ellipse::ellipse_near(c, a, b, p),
-        }
-    }
 }
 
 // An axis-parallel box.
@@ -60,25 +35,10 @@ pub struct Near {
     pub n: Point,
 }
 
-// An edge's number, its point nearest to another, and the squared distance from which on an edge is clearly
-// farther.
-pub struct Found {
-    pub i: usize,
-    pub q: Point,
-    pub far: f64,
-}
-
 // A distance, and what goes with it: the normal of a signed distance, the nearest point of an ellipse.
 pub struct Distance {
     pub d: f64,
     pub v: Point,
-}
-
-// The curve G(s) = (n0/(s + r0))² + (z1/(s + 1))² - 1, whose root gives the nearest point of an ellipse.
-pub struct Curve {
-    pub n0: f64,
-    pub r0: f64,
-    pub z1: f64,
 }
 
 // Vertex i of an outline's numbers.
@@ -123,6 +83,13 @@ pub fn greater_of(a: f64, b: f64) -> f64
     ensures { λ r. ⌜ r ≡ greater a b ⌝ }
 {
     number::signs::pick(a < b, b, a)
+}
+
+// Half the sum.
+pub fn middle_of(s0: f64, s1: f64) -> f64
+    ensures { λ r. ⌜ r ≡ middle s0 s1 ⌝ }
+{
+    0.5 * (s0 + s1)
 }
 
 // The length of one edge.

@@ -1,12 +1,11 @@
 // The nearest point of a line.
 ghost use mathlib.Core.Path.{_≡_};
-ghost use Rattle.boundary.specs.Line.{wayOf, squaresOf, paramOf, alongOf, footOf, normalOf, lineNear};
+ghost use Rattle.boundary.specs.Line.{wayOf, squaresOf, alongOf, aheadOf, footOf, normalOf, lineNear};
 use crate::Edge;
 use crate::Near;
 use crate::Point;
 use number::root::hypot;
 use number::root::sqrt;
-use number::signs::clamp;
 use number::signs::pick;
 
 // From a to b.
@@ -26,16 +25,6 @@ fn squares(w: Point) -> f64
     w.x * w.x + w.y * w.y
 }
 
-// Where on the edge the point nearest to p stands: 0 is a, 1 is b.
-fn param(e: Edge, p: Point) -> f64
-    ensures { λ r. ⌜ r ≡ paramOf e p ⌝ }
-{
-    let w = way(e);
-    let l2 = squares(w);
-    let dot = (p.x - e.a.x) * w.x + (p.y - e.a.y) * w.y;
-    pick(l2 > 0.0, clamp(dot / l2, 0.0, 1.0), 0.0)
-}
-
 // The point at t between a and b, of one axis.
 pub fn along(a: f64, b: f64, t: f64) -> f64
     ensures { λ r. ⌜ r ≡ alongOf a b t ⌝ }
@@ -43,15 +32,33 @@ pub fn along(a: f64, b: f64, t: f64) -> f64
     pick(t == 1.0, b, a + t * (b - a))
 }
 
-// The point of the edge nearest to p.
+// The point at t from the edge's start, as it works out.
+fn ahead(e: Edge, t: f64) -> Point
+    ensures { λ r. ⌜ r ≡ record { x = aheadOf (e .a .x) (e .b .x) t; y = aheadOf (e .a .y) (e .b .y) t } ⌝ }
+{
+    Point {
+        x: e.a.x + t * (e.b.x - e.a.x),
+        y: e.a.y + t * (e.b.y - e.a.y),
+    }
+}
+
+// The point of the edge nearest to p. The cases are branches: where one is foreseen, an end is known before the
+// quotient is.
 pub fn foot(e: Edge, p: Point) -> Point
     ensures { λ r. ⌜ r ≡ footOf e p ⌝ }
 {
-    let t = param(e, p);
-    Point {
-        x: along(e.a.x, e.b.x, t),
-        y: along(e.a.y, e.b.y, t),
+    let w = way(e);
+    let l2 = squares(w);
+    let t = ((p.x - e.a.x) * w.x + (p.y - e.a.y) * w.y) / l2;
+    if l2 > 0.0 {
+        if t >= 1.0 {
+            return e.b;
+        }
+        if !(t < 0.0) {
+            return ahead(e, t);
+        }
     }
+    ahead(e, 0.0)
 }
 
 // The edge's own normal, to the right of its way.

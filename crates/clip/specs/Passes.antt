@@ -9,7 +9,7 @@ use Rattle.boundary.specs.declared.Point.{Point}
 use Rattle.boundary.specs.declared.Edge.{Edge}
 use Rattle.boundary.specs.Folds.{fold}
 use Rattle.boundary.specs.Line.{one, alongOf}
-use Rattle.boundary.specs.Ellipse.{half}
+use Rattle.boundary.specs.Line.{half}
 use Rattle.clip.specs.declared.Side.{Side}
 use Rattle.clip.specs.declared.Marks.{Marks}
 use Rattle.clip.specs.declared.Survey.{Survey}

@@ -1,29 +1,29 @@
 -- Demand 3 of every accepted set that has an outline and every query point, all on the grid. Assumes nothing.
 use mathlib.Core.Path.{_≡_, sym, ap, _∙_}
-use mathlib.Core.Bool.{false, not, cond}
+use mathlib.Core.Bool.{false, not}
 use mathlib.Core.List.{List}
 use Prim.Native.Nat.{ℕ, _<_}
 use native.Mathlib.Omega.{arith}
 use borrow.Author.Tests.{ne-eqb}
-use lib.Dec.{T, eqb}
+use lib.Dec.{T}
 use lib.ListN.{length}
 use lib.Ieee.{Float, inf, isNan}
-use Rattle.number.specs.Exact.{Is}
 use Rattle.number.specs.Signs.{absOf}
 use Rattle.number.proofs.OrderLaws.{below-le, left-not-nan}
 use Rattle.number.proofs.Values.{abs-is, below-infinity}
 use Rattle.boundary.specs.declared.Point.{Point}
 use Rattle.boundary.specs.declared.Distance.{Distance}
-use Rattle.boundary.specs.Nearest.{nearestOf, signedOf}
+use Rattle.distance.specs.Nearest.{nearestOf, signedOf}
 use Rattle.boundary.specs.Outline.{edges}
-use Rattle.geometry.specs.declared.Answer.the-variants.{Away}
+use Rattle.accept.specs.declared.Answer.the-variants.{Away}
 use Rattle.geometry.specs.Polygon.{containsOf}
-use Rattle.geometry.specs.Refusals.{pointTested}
-use Rattle.geometry.specs.Answers.{answerFor, distanceAnswer}
-use Rattle.index.specs.declared.Test.the-variants.{Passed}
+use Rattle.accept.specs.declared.Test.the-variants.{Passed}
+use Rattle.accept.specs.Refusals.{pointTested, roomTested}
+use Rattle.accept.specs.Answers.{answerFor}
+use Rattle.geometry.specs.Answers.{distanceAnswer}
 use Rattle.set.specs.Set.{outlineAt}
-use Rattle.index.specs.Answers.{roomTested, shortIndex}
-use Rattle.set.specs.Tests.{setTested, pointTestedIn, setQueryTested}
+use Rattle.index.specs.Answers.{shortIndex}
+use Rattle.set.specs.Tests.{setTested, setQueryTested}
 use Rattle.nearest.specs.declared.Nearest.the-variants.{At}
 use Rattle.nearest.specs.Nearest.{magnitudeOf, magnitudeAt, leastOf, nearestIn}
 use Rattle.nearest.specs.Answers.{nearestFor, nearestAnswer}
@@ -31,10 +31,9 @@ use Rattle.nearest.proofs.LeastLaws.{least-of}
 use Rattle.nearest.proofs.Theorems.{least-is}
 use Rattle.exact.specs.Whole.{PointZ}
 use Rattle.exact.specs.Grid.{PointOn, OutlineOn}
-use Rattle.exact.specs.OneOutline.{GridExact}
 use Rattle.exact.proofs.OneOutline.{grid-exact}
 use Rattle.exact.proofs.Tests.{grid-in-field}
-use Rattle.demand.specs.Demand.{OutlineExact, NearestLeast, Demand3}
+use Rattle.demand.specs.Demand.{OutlineExact, Demand3}
 use Rattle.demand.proofs.OutlineLaws.{outline-passes, outline-on}
 
 module _ (v : List Float) (cs : List ℕ) (passed : setTested v cs ≡ Passed) (some : 0 < length cs) (grid : OutlineOn v) {p : Point} {q : PointZ} (on : PointOn p q) where
@@ -75,7 +74,7 @@ module _ (v : List Float) (cs : List ℕ) (passed : setTested v cs ≡ Passed) (
 
   -- the query passes the tests
   answered : (C : List Float) (L I : List ℕ) → shortIndex (length C) (length L) (length I) ≡ false → nearestAnswer v cs p C L I ≡ At (leastOf (magnitudeAt v cs p) (length cs))
-  unfolding nearestAnswer nearestFor setQueryTested roomTested pointTestedIn nearestIn
+  unfolding nearestAnswer nearestFor setQueryTested roomTested pointTested nearestIn
   answered C L I short = rw (passed, grid-in-field (on .x), grid-in-field (on .y), short, ne-eqb (length cs) 0 (λ z. omega arith))
 
   pub demand-3 : Demand3 v cs p q

@@ -1,27 +1,23 @@
 -- An outline of a set that passes the tests passes its own, and it is on the grid where the set is. Assumes nothing.
-use mathlib.Core.Path.{_≡_, refl, sym, ap, _∙_}
-use mathlib.Core.Bool.{Bool, true, false, not, cond}
+use mathlib.Core.Path.{_≡_, sym, ap, _∙_}
+use mathlib.Core.Bool.{Bool, false}
 use mathlib.Core.List.{List, []}
-use Prim.Native.Nat.{ℕ, zero, suc, _+_, _*_, _%_, _≤_, _<_}
+use Prim.Native.Nat.{ℕ, zero, suc, _+_, _*_, _%_, _<_}
 use native.Mathlib.Omega.{arith}
 use borrow.Author.Tests.{le-ltb, ne-eqb}
-use lib.Dec.{eqb, ltb}
 use lib.ListN.{length, getD, take, drop}
-use lib.Ieee.{Float, lt}
-use Rattle.number.specs.Exact.{zeroᶠ}
+use lib.Ieee.{Float}
 use Rattle.boundary.specs.Folds.{run, any}
-use Rattle.boundary.specs.Outline.{count, edges}
+use Rattle.boundary.specs.Outline.{count}
 use Rattle.boundary.proofs.FoldLaws.{any-at}
-use Rattle.geometry.specs.declared.Verdict.the-variants.{Passed as Accepted}
-use Rattle.geometry.specs.Polygon.{areaOf}
-use Rattle.geometry.specs.Refusals.{outlineTested, signTested}
-use Rattle.geometry.proofs.TestLaws.{Shape, tested}
-use Rattle.index.specs.declared.Test.the-variants.{Passed}
-use Rattle.index.proofs.StoreLaws.{length-run, run-at}
-use Rattle.set.specs.Set.{startOf, outlineAt, outlinesOf, Fit}
-use Rattle.set.specs.Tests.{notFinite, outsideField, equalNeighbours, zeroArea, negativeArea, outlinesTested, setTested}
-use Rattle.set.proofs.SetLaws.{passed-fit, outline-length, outline-count, Passing, passing}
-use Rattle.exact.specs.Grid.{Each, OnGrid, OutlineOn}
+use Rattle.accept.specs.declared.Test.the-variants.{Passed}
+use Rattle.accept.specs.Refusals.{notFinite, outsideField, equalNeighbours, zeroArea, negativeArea, outlineTested, signTested}
+use Rattle.accept.proofs.TestLaws.{Shape, tested}
+use Rattle.entries.proofs.StoreLaws.{length-run, run-at}
+use Rattle.set.specs.Set.{startOf, outlineAt, outlinesOf}
+use Rattle.set.specs.Tests.{setTested}
+use Rattle.set.proofs.SetLaws.{passed-fit, outline-length, outline-count, passing}
+use Rattle.exact.specs.Grid.{Each, OutlineOn}
 use Rattle.exact.specs.Grid.Each.{none, more}
 use Rattle.exact.proofs.EachLaws.{take-each}
 
@@ -38,7 +34,7 @@ module _ (v : List Float) (cs : List ℕ) (passed : setTested v cs ≡ Passed) (
       let z : 0 + k ≡ k = omega arith in
       sym (ap P (run-at (outlineAt v cs) 0 (length cs) k [] l ∙ ap (outlineAt v cs) z)) ∙ any-at P [] (run (outlineAt v cs) 0 (length cs)) k (omega arith) h
 
-  pub outline-passes : outlineTested (outlineAt v cs k) ≡ Accepted (areaOf (edges (outlineAt v cs k)))
+  pub outline-passes : outlineTested (outlineAt v cs k) ≡ Passed
   unfolding outlineTested signTested
   outline-passes =
       let fit = passed-fit v cs passed in
@@ -47,7 +43,7 @@ module _ (v : List Float) (cs : List ℕ) (passed : setTested v cs ≡ Passed) (
       let m = outline-count v cs fit k l in
       let three = fit .least k l in
       let most = fit .most k l in
-      let s : Shape (outlineAt v cs k) (areaOf (edges (outlineAt v cs k))) = record {
+      let s : Shape (outlineAt v cs k) = record {
         even = ne-eqb (length (outlineAt v cs k) % 2) 1 (λ e. omega arith);
         enough = le-ltb (count (outlineAt v cs k)) 3 (omega arith);
         few = le-ltb 4096 (count (outlineAt v cs k)) (omega arith);
@@ -55,7 +51,6 @@ module _ (v : List Float) (cs : List ℕ) (passed : setTested v cs ≡ Passed) (
         all-in-field = each outsideField (t .in-field);
         apart = each equalNeighbours (t .apart);
         nonzero = each zeroArea (t .nonzero);
-        area = refl;
       } in
       rw (tested s, each negativeArea (t .positive))
 

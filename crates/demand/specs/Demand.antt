@@ -10,7 +10,7 @@ use Rattle.number.specs.Signs.{absOf}
 use Rattle.boundary.specs.declared.Point.{Point}
 use Rattle.boundary.specs.declared.Distance.{Distance}
 use Rattle.boundary.specs.Outline.{edges}
-use Rattle.geometry.specs.declared.Answer.the-variants.{Told, Measure, Away}
+use Rattle.accept.specs.declared.Answer.the-variants.{Told, Measure, Away}
 use Rattle.geometry.specs.Answers.{areaAnswer, locateAnswer, distanceAnswer}
 use Rattle.index.specs.Answers.{shortIndex}
 use Rattle.set.specs.Set.{outlineAt}

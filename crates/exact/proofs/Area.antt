@@ -12,7 +12,7 @@ use Rattle.number.proofs.Operations.{zero-is}
 use Rattle.number.proofs.ExactLaws.{half-is, add-sized, sub-sized, mul-sized}
 use Rattle.boundary.specs.declared.Edge.{Edge}
 use Rattle.boundary.specs.Folds.{fold, total}
-use Rattle.geometry.specs.Polygon.{crossOf, areaOf}
+use Rattle.accept.specs.Area.{crossOf, areaOf}
 use Rattle.exact.specs.Whole.{EdgeZ, crossZ, shoelaceZ}
 use Rattle.exact.specs.Grid.{EdgeOn, EdgesOn}
 use Rattle.exact.specs.Grid.Each.{none, more}

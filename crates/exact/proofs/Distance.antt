@@ -26,10 +26,10 @@ use Rattle.boundary.specs.declared.Near.{Near}
 use Rattle.boundary.specs.declared.Distance.{Distance}
 use Rattle.boundary.specs.Folds.{fold, any}
 use Rattle.boundary.specs.Line.{lineNear}
-use Rattle.boundary.specs.Piece.{pieceNear}
-use Rattle.boundary.specs.Nearest.{nearer, farAway, nearestOf, roundingOf, flipped, signedOf}
+use Rattle.pieces.specs.Piece.{pieceNear}
+use Rattle.distance.specs.Nearest.{nearer, farAway, nearestOf, roundingOf, flipped, signedOf}
 use Rattle.geometry.specs.Polygon.{containsOf}
-use Rattle.geometry.specs.Refusals.{samePoint}
+use Rattle.accept.specs.Refusals.{samePoint}
 use Rattle.exact.specs.Whole.{PointZ, EdgeZ, onEdgeZ, boundaryZ, insideZ, locationZ}
 use Rattle.exact.specs.Grid.{PointOn, EdgeOn, EdgesOn}
 use Rattle.exact.specs.Grid.Each.{none, more}

@@ -15,22 +15,21 @@ use Rattle.algebra.specs.Quote.{quote, ring}
 use Rattle.algebra.specs.Order.{_≺_, absℤ, nonneg-nat, natAbs-neg, <ℤ→≤ℤ}
 use Rattle.algebra.specs.Lin as L
 use Rattle.algebra.specs.Lin.{lt-from}
-use Rattle.number.specs.Exact.{Is, zeroᶠ, eqZ}
+use Rattle.number.specs.Exact.{Is, eqZ}
 use Rattle.number.proofs.Operations.{is-unique, zero-is}
 use Rattle.number.proofs.Compare.{lt-false, is-lt, not-lt, eq-false, lt-is, eq-is}
 use Rattle.boundary.specs.declared.Point.{Point}
 use Rattle.boundary.specs.declared.Edge.{Edge}
 use Rattle.boundary.specs.Folds.{any}
 use Rattle.boundary.specs.Outline.{count, vertexAt, vertices, edges}
-use Rattle.geometry.specs.declared.Verdict.{Verdict}
-use Rattle.geometry.specs.declared.Verdict.the-variants.{Passed, Failed}
-use Rattle.geometry.specs.declared.Answer.the-variants.{Told, Refused}
-use Rattle.geometry.specs.declared.Refusal.the-variants.{ShortBuffer}
-use Rattle.geometry.specs.Polygon.{areaOf}
-use Rattle.geometry.specs.Refusals.{samePoint, shapeTested, signTested, outlineTested}
-use Rattle.geometry.specs.Answers.{answerFor}
-use Rattle.geometry.specs.Making.{kept, keptCount, tooShort, numbers, turned, makeAnswer, writtenFor, madeList}
-use Rattle.geometry.specs.Lists.{atFront}
+use Rattle.accept.specs.declared.Test.{Test}
+use Rattle.accept.specs.declared.Test.the-variants.{Passed, Failed}
+use Rattle.accept.specs.declared.Answer.the-variants.{Told}
+use Rattle.accept.specs.Area.{areaOf}
+use Rattle.accept.specs.Refusals.{samePoint, negativeArea, shapeTested, signTested, outlineTested}
+use Rattle.accept.specs.Answers.{answerFor}
+use Rattle.geometry.specs.Making.{kept, keptCount, numbers, turned, makeTested, makeAnswer, madeList}
+use Rattle.accept.specs.Lists.{atFront, writtenFor}
 use Rattle.exact.specs.Whole.{PointZ, EdgeZ, edgeZ, crossZ, shoelaceZ}
 use Rattle.exact.specs.Grid.{PointOn, EdgeOn, Each, EdgesOn, OutlineOn}
 use Rattle.exact.specs.OneOutline.{MadeOn}
@@ -39,7 +38,7 @@ use Rattle.exact.proofs.Loop.{length-run, loop, edges-loop}
 use Rattle.exact.proofs.Turned.{loop-turned}
 use Rattle.exact.proofs.Numbers.{length-numbers, vertices-numbers, numbers-vertices, numbers-on}
 use Rattle.exact.proofs.WholeEdges.{loop-on, vertices-on}
-use Rattle.geometry.proofs.TestLaws.{Shape, shape, tested}
+use Rattle.accept.proofs.TestLaws.{Shape, shape, tested, room-passed}
 use Rattle.exact.proofs.Tests.{grid-finite, grid-in-field}
 use Rattle.exact.proofs.Area.{area-exact}
 use Rattle.exact.proofs.OneOutline.{few-edges}
@@ -81,10 +80,10 @@ length-vertices : (v : List Float) → length (vertices v) ≡ count v
 unfolding vertices
 length-vertices v = length-run (vertexAt v) 0 (count v)
 
-even-length : {w : List Float} {a : Float} → Shape w a → length w ≡ 2 * count w
+even-length : {w : List Float} → Shape w → length w ≡ 2 * count w
 even-length {w} s = let h = eqb-false (length w % 2) 1 (s .even) in omega arith
 
-module _ {w : List Float} {a : Float} {qs : List PointZ} (s : Shape w a) (r : Each PointOn (vertices w) qs) where
+module _ {w : List Float} {qs : List PointZ} (s : Shape w) (r : Each PointOn (vertices w) qs) where
   abbrev back : List Float
   back = numbers (reverse (vertices w))
 
@@ -94,8 +93,8 @@ module _ {w : List Float} {a : Float} {qs : List PointZ} (s : Shape w a) (r : Ea
   abbrev total : ℤ
   total = shoelaceZ (loop edgeZ qs)
 
-  area-is : Is 21 a total
-  area-is = subst (λ (x : Float). Is 21 x total) (s .area) (area-exact (rw (edges-loop w) (loop-on r)) (few-edges w (s .few)))
+  area-is : Is 21 (areaOf (edges w)) total
+  area-is = area-exact (rw (edges-loop w) (loop-on r)) (few-edges w (s .few))
 
   back-few : ltb 4096 (count back) ≡ false
   back-few = rw back-length (s .few)
@@ -103,11 +102,11 @@ module _ {w : List Float} {a : Float} {qs : List PointZ} (s : Shape w a) (r : Ea
   back-area : Is 21 (areaOf (edges back)) (negℤ total)
   back-area = subst (Is 21 (areaOf (edges back))) (shoelace-turned qs) (area-exact (edges-numbers (reverse-each r)) (few-edges back back-few))
 
-  module _ (negative : lt a zeroᶠ ≡ true) where
+  module _ (negative : negativeArea w ≡ true) where
     above : pos 0 ≺ negℤ total
     above = let h : total ≺ pos 0 = is-lt (sym (lt-is area-is (zero-is 21)) ∙ negative) in lt-from (total ∷ []) (L.lt h ∷ []) (search quote depth 30) (omega arith)
 
-    back-shape : Shape back (areaOf (edges back))
+    back-shape : Shape back
     back-shape =
         let on = numbers-on (reverse-each r) in
         record {
@@ -118,51 +117,48 @@ module _ {w : List Float} {a : Float} {qs : List PointZ} (s : Shape w a) (r : Ea
           all-in-field = any-each (λ x z g. ap not (grid-in-field g)) (on .on) ∙ any-never (on .steps);
           apart = any-each same-exact (edges-numbers (reverse-each r)) ∙ same-turned qs ∙ sym (any-each same-exact (rw (edges-loop w) (loop-on r))) ∙ s .apart;
           nonzero = eq-is back-area (zero-is 21) ∙ eq-false above;
-          area = refl;
         }
 
-    back-accepted : outlineTested back ≡ Passed (areaOf (edges back))
+    back-accepted : outlineTested back ≡ Passed
     unfolding outlineTested signTested
     back-accepted = rw (tested back-shape, lt-is back-area (zero-is 21), lt-false (<ℤ→≤ℤ above))
 
     back-magnitude : {z : ℤ} → Is 21 (areaOf (edges w)) z → Is 21 (areaOf (edges back)) (absℤ z)
     back-magnitude {z} h =
-        let same : z ≡ total = is-unique (subst (λ (x : Float). Is 21 x z) (s .area) h) area-is in
+        let same : z ≡ total = is-unique h area-is in
         subst (Is 21 (areaOf (edges back))) (sym (nonneg-nat (<ℤ→≤ℤ above)) ∙ ap pos (natAbs-neg total ∙ ap natAbs (sym same))) back-area
 
 -- ---- the theorem
 pub made-accepted : {v : List Float} (out : List Float) {n : ℕ} → OutlineOn v → makeAnswer v (length out) ≡ Told n → MadeOn v (take (2 * n) (madeList v out))
 unfolding makeAnswer answerFor madeList writtenFor atFront turned outlineTested signTested
-made-accepted {v} out {n} g e = go (shapeTested (kept v)) refl e
+made-accepted {v} out {n} g e = go (makeTested v (length out)) refl e
   where
     w : List Float
     w = kept v
 
-    made : {a : Float} (b : Bool) → shapeTested w ≡ Passed a → lt a zeroᶠ ≡ b → MadeOn v (numbers (cond b (reverse (vertices w)) (vertices w)))
-    made {a} true t e =
+    made : (b : Bool) → shapeTested w ≡ Passed → negativeArea w ≡ b → MadeOn v (numbers (cond b (reverse (vertices w)) (vertices w)))
+    made true t e =
         let r = vertices-on (take-each (keptCount v) (g .on)) .1 in
-        let s = shape w a t in
-        record { on = numbers-on (reverse-each r); area = areaOf (edges (back s r)); accepted = back-accepted s r e; magnitude = back-magnitude s r e }
-    made {a} false t e =
-        let s = shape w a t in
+        let s = shape w t in
+        record { on = numbers-on (reverse-each r); accepted = back-accepted s r e; magnitude = back-magnitude s r e }
+    made false t e =
+        let s = shape w t in
         rw (numbers-vertices w (even-length s)) (record {
           on = record { steps = take (keptCount v) (g .steps); on = take-each (keptCount v) (g .on) };
-          area = a;
           accepted = rw (t, e);
-          magnitude = λ {z} h. let m = subst (λ (x : Float). Is 21 x z) (s .area) h in subst (Is 21 a) (sym (nonneg-nat (not-lt (sym (lt-is m (zero-is 21)) ∙ e)))) m;
+          magnitude = λ {z} m. subst (Is 21 (areaOf (edges w))) (sym (nonneg-nat (not-lt (sym (lt-is m (zero-is 21)) ∙ e)))) m;
         })
-
-    told : (b : Bool) (m : ℕ) → cond b (Refused ShortBuffer) (Told m) ≡ Told n → (b ≡ false) × (m ≡ n)
-    told false m e = (refl, cc)
-    told true m e = absurd (let z : _≡_ {A = ℕ} 0 1 = cc in omega arith)
 
     length-turned : (b : Bool) → length (cond b (reverse (vertices w)) (vertices w)) ≡ count w
     length-turned true = length-reverse (vertices w) ∙ length-vertices w
     length-turned false = length-vertices w
 
-    go : (t : Verdict) → shapeTested w ≡ t → answerFor t (λ a. cond (tooShort v (length out)) (Refused ShortBuffer) (Told (count w))) ≡ Told n → MadeOn v (take (2 * n) (writtenFor v out t))
+    passed : makeTested v (length out) ≡ Passed → shapeTested w ≡ Passed
+    passed t = room-passed _ (shapeTested w) (unfold makeTested in t) .1
+
+    go : (t : Test) → makeTested v (length out) ≡ t → answerFor t (Told (count w)) ≡ Told n → MadeOn v (take (2 * n) (writtenFor (numbers (turned (negativeArea w) (vertices w))) out t))
     go (Failed r) t e = absurd (let z : _≡_ {A = ℕ} 0 1 = cc in omega arith)
-    go (Passed a) t e =
-        let k = told (tooShort v (length out)) (count w) e in
-        let ps = cond (lt a zeroᶠ) (reverse (vertices w)) (vertices w) in
-        rw (k .0, take-at (numbers ps) (drop (length (numbers ps)) out) (2 * n) (length-numbers ps ∙ ap (λ (m : ℕ). 2 * m) (length-turned (lt a zeroᶠ) ∙ k .1))) (made (lt a zeroᶠ) t refl)
+    go Passed t e =
+        let k : count w ≡ n = cc in
+        let ps = cond (negativeArea w) (reverse (vertices w)) (vertices w) in
+        rw (take-at (numbers ps) (drop (length (numbers ps)) out) (2 * n) (length-numbers ps ∙ ap (λ (m : ℕ). 2 * m) (length-turned (negativeArea w) ∙ k))) (made (negativeArea w) (passed t) refl)

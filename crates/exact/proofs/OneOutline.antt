@@ -1,5 +1,5 @@
 -- Demand 3 of one outline that the tests accept. Assumes nothing.
-use mathlib.Core.Path.{_≡_, subst}
+use mathlib.Core.Path.{_≡_}
 use mathlib.Core.Bool.{false}
 use mathlib.Core.List.{List}
 use Prim.Native.Nat.{_<_, _≤_}
@@ -8,14 +8,13 @@ use borrow.Author.Tests.{ltb-false}
 use lib.Dec.{ltb}
 use lib.ListN.{length}
 use lib.Ieee.{Float}
-use Rattle.number.specs.Exact.{Is}
 use Rattle.boundary.specs.Outline.{count, edgeAt, edges}
-use Rattle.boundary.specs.Nearest.{nearestOf, signedOf}
-use Rattle.geometry.specs.declared.Verdict.the-variants.{Passed}
+use Rattle.distance.specs.Nearest.{nearestOf, signedOf}
+use Rattle.accept.specs.declared.Test.the-variants.{Passed}
 use Rattle.geometry.specs.Polygon.{containsOf}
-use Rattle.geometry.specs.Refusals.{outlineTested, pointTested}
-use Rattle.geometry.specs.Answers.{answerFor, areaAnswer, locateAnswer, distanceAnswer}
-use Rattle.exact.specs.Whole.{shoelaceZ}
+use Rattle.accept.specs.Refusals.{outlineTested, pointTested}
+use Rattle.accept.specs.Answers.{answerFor}
+use Rattle.geometry.specs.Answers.{areaAnswer, locateAnswer, distanceAnswer}
 use Rattle.exact.specs.Grid.{OutlineOn}
 use Rattle.exact.specs.OneOutline.{GridExact}
 use Rattle.exact.proofs.Area.{area-exact}
@@ -23,7 +22,7 @@ use Rattle.exact.proofs.Location.{location-exact}
 use Rattle.exact.proofs.Distance.{distance-near}
 use Rattle.exact.proofs.Loop.{length-run}
 use Rattle.exact.proofs.WholeEdges.{edges-on}
-use Rattle.geometry.proofs.TestLaws.{shape, accepted}
+use Rattle.accept.proofs.TestLaws.{shape, accepted}
 use Rattle.exact.proofs.Tests.{grid-in-field}
 
 pub few-edges : (v : List Float) → ltb 4096 (count v) ≡ false → length (edges v) ≤ 4096
@@ -34,15 +33,15 @@ some-edges : (v : List Float) → ltb (count v) 3 ≡ false → 0 < length (edge
 unfolding edges
 some-edges v h = rw (length-run (edgeAt v) 0 (count v)) (let l = ltb-false (count v) 3 h in omega arith)
 
-pub grid-exact : {v : List Float} {a : Float} → OutlineOn v → outlineTested v ≡ Passed a → GridExact v a
+pub grid-exact : {v : List Float} → OutlineOn v → outlineTested v ≡ Passed → GridExact v
 unfolding areaAnswer locateAnswer distanceAnswer answerFor pointTested
-grid-exact {v} {a} g e =
-    let s = shape v a (accepted v a e) in
+grid-exact {v} g e =
+    let s = shape v (accepted v e) in
     let w = edges-on g in
     record {
       whole = w .0;
       on = w .1;
-      area = subst (λ (x : Float). Is 21 x (shoelaceZ (w .0))) (s .area) (area-exact (w .1) (few-edges v (s .few)));
+      area = area-exact (w .1) (few-edges v (s .few));
       area-answer = rw e;
       location = λ P. location-exact (w .1) P;
       location-answer = λ P. rw (e, grid-in-field (P .x), grid-in-field (P .y), location-exact (w .1) P);

@@ -9,10 +9,11 @@ use Rattle.number.specs.Exact.{Is}
 use Rattle.boundary.specs.declared.Point.{Point}
 use Rattle.boundary.specs.declared.Distance.{Distance}
 use Rattle.boundary.specs.Outline.{edges}
-use Rattle.geometry.specs.declared.Answer.the-variants.{Told, Measure, Away}
-use Rattle.geometry.specs.declared.Verdict.the-variants.{Passed}
-use Rattle.geometry.specs.Polygon.{areaOf, locateOf}
-use Rattle.geometry.specs.Refusals.{outlineTested}
+use Rattle.accept.specs.declared.Answer.the-variants.{Told, Measure, Away}
+use Rattle.accept.specs.declared.Test.the-variants.{Passed}
+use Rattle.accept.specs.Area.{areaOf}
+use Rattle.geometry.specs.Polygon.{locateOf}
+use Rattle.accept.specs.Refusals.{outlineTested}
 use Rattle.geometry.specs.Answers.{areaAnswer, locateAnswer, distanceAnswer}
 use Rattle.geometry.specs.Making.{kept}
 use Rattle.exact.specs.Whole.{PointZ, EdgeZ, shoelaceZ, locationZ}
@@ -25,13 +26,13 @@ pub record DistanceNear (v : List Float) (p : Point) (fs : List EdgeZ) (q : Poin
   pub answer : distanceAnswer v p ≡ Away signed
   pub near : SignedNear fs q (signed .d)
 
--- The outline v, of area a. `whole` are its edges, in steps. The area is half their shoelace sum: a square step is 2 ^ -20 square µm, half of one 2 ^ -21.
+-- The outline v. `whole` are its edges, in steps. The area is half their shoelace sum: a square step is 2 ^ -20 square µm, half of one 2 ^ -21.
 -- Every point of the grid is where whole-number geometry has it, and as far away. The operations answer so.
-pub record GridExact (v : List Float) (a : Float) : Type 0 where
+pub record GridExact (v : List Float) : Type 0 where
   pub whole : List EdgeZ
   pub on : EdgesOn (edges v) whole
-  pub area : Is 21 a (shoelaceZ whole)
-  pub area-answer : areaAnswer v ≡ Measure a
+  pub area : Is 21 (areaOf (edges v)) (shoelaceZ whole)
+  pub area-answer : areaAnswer v ≡ Measure (areaOf (edges v))
   pub location : {p : Point} {q : PointZ} → PointOn p q → locateOf (edges v) p ≡ locationZ whole q
   pub location-answer : {p : Point} {q : PointZ} → PointOn p q → locateAnswer v p ≡ Told (locationZ whole q)
   pub distance : {p : Point} {q : PointZ} → PointOn p q → DistanceNear v p whole q
@@ -39,6 +40,5 @@ pub record GridExact (v : List Float) (a : Float) : Type 0 where
 -- The outline w that is made of v: it is on the grid and passes tests 1 to 9, and its area is the magnitude of that before it was reversed
 pub record MadeOn (v w : List Float) : Type 0 where
   pub on : OutlineOn w
-  pub area : Float
-  pub accepted : outlineTested w ≡ Passed area
-  pub magnitude : {z : ℤ} → Is 21 (areaOf (edges (kept v))) z → Is 21 area (absℤ z)
+  pub accepted : outlineTested w ≡ Passed
+  pub magnitude : {z : ℤ} → Is 21 (areaOf (edges (kept v))) z → Is 21 (areaOf (edges w)) (absℤ z)

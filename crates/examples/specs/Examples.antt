@@ -17,27 +17,29 @@ use Rattle.boundary.specs.Folds.{run, fold, any, oddly, total}
 use Rattle.boundary.specs.Outline.{vertices, edges}
 use Rattle.boundary.specs.Length.{edgeLength, lengthOf}
 use Rattle.boundary.specs.Line.{paramOf, alongOf, footOf, normalOf, lineNear}
-use Rattle.boundary.specs.Piece.{pieceNear}
-use Rattle.boundary.specs.Nearest.{nearestOf, roundingOf, signedOf}
-use Rattle.boundary.specs.Ellipse.{quadrantNearest, onAxis, longNearest, ellipseNearest, ellipseFoot, ellipseNear}
-use Rattle.geometry.specs.declared.Answer.{Answer}
-use Rattle.geometry.specs.declared.Answer.the-variants.{Refused, Told, Measure, Away}
-use Rattle.geometry.specs.declared.Refusal.the-variants.{ZeroArea}
-use Rattle.geometry.specs.Answers.{areaAnswer, perimeterAnswer, containsAnswer, locateAnswer, distanceAnswer, answerFor}
-use Rattle.geometry.specs.Polygon.{areaOf, containsOf, crossesOf, locateOf, onEdge}
-use Rattle.geometry.specs.Refusals.{outlineTested, signTested, shapeTested, valuesTested, areaTested, pointTested}
-use Rattle.geometry.specs.Making.{madeList}
-use Rattle.geometry.specs.Ellipse.{offsetFits, ellipseFits, ellipseAnswer}
+use Rattle.pieces.specs.Piece.{pieceNear}
+use Rattle.distance.specs.Nearest.{nearestOf, roundingOf, signedOf}
+use Rattle.pieces.specs.Ellipse.{quadrantNearest, onAxis, longNearest, ellipseNearest, ellipseFoot, ellipseNear}
+use Rattle.accept.specs.declared.Answer.{Answer}
+use Rattle.accept.specs.declared.Answer.the-variants.{Refused, Told, Measure, Away}
+use Rattle.accept.specs.declared.Refusal.the-variants.{ZeroArea}
+use Rattle.accept.specs.declared.Test.the-variants.{Passed}
+use Rattle.accept.specs.Answers.{answerFor}
+use Rattle.geometry.specs.Answers.{areaAnswer, perimeterAnswer, containsAnswer, locateAnswer, distanceAnswer}
+use Rattle.accept.specs.Area.{areaOf}
+use Rattle.geometry.specs.Polygon.{containsOf, crossesOf, locateOf, onEdge}
+use Rattle.accept.specs.Refusals.{outlineTested, signTested, shapeTested, valuesTested, pointTested, cellTested, roomTested}
+use Rattle.geometry.specs.Making.{makeTested, madeList}
+use Rattle.oval.specs.Ellipse.{offsetFits, ellipseFits, ellipseTested, ellipseAnswer}
 use Rattle.clip.specs.Clip.{inside, crosses, partOf, partsOf, parts, lead, lastKept, turned, keptLines, joint, onward, joined, clipOf}
 use Rattle.fill.specs.Fill.{xdyOf, fillOf, longOf}
-use Rattle.fill.specs.Answers.{cellTested, roomTested, fillTested, filled, fillAnswer}
+use Rattle.fill.specs.Answers.{fillTested, filled, fillAnswer}
 use Rattle.sorts.specs.Sort.{insert, sort}
-use Rattle.index.specs.Entries.{boxAt, wideAt}
-use Rattle.index.specs.Tree.{hull, hullOf, treeOn, indexOf}
+use Rattle.entries.specs.Entries.{boxAt, wideAt}
+use Rattle.splits.specs.Tree.{hull, hullOf, treeOn, indexOf}
 use Rattle.meeting.specs.Meeting.{apart, meetingOf}
-use Rattle.index.specs.declared.Test.the-variants.{Passed}
 use Rattle.set.specs.Set.{startOf, outlineAt, outlinesOf}
-use Rattle.set.specs.Tests.{outlinesTested, sizesTested, setTested, pointTestedIn}
+use Rattle.set.specs.Tests.{outlinesTested, sizesTested, setTested}
 use Rattle.nearest.specs.declared.Nearest.{Nearest}
 use Rattle.nearest.specs.declared.Nearest.the-variants.{At}
 use Rattle.nearest.specs.Nearest.{magnitudeOf, magnitudeAt, leastOf, nearestIn}
@@ -95,7 +97,7 @@ fours = 4 ∷ 4 ∷ []
 
 -- what a nearest query answers in working buffers of index size
 abbrev pub nearest-of : List Float → List ℕ → Point → Nearest
-nearest-of v cs p = nearestFor (nearestIn v cs p) (pointTestedIn p (setTested v cs))
+nearest-of v cs p = nearestFor (nearestIn v cs p) (pointTested p (setTested v cs))
 
 -- what a call gives: an answer, a lent list of numbers, a list of items, or the nearest outline
 pub data Given : Type 0 where
@@ -180,15 +182,15 @@ in-tenths : Away (away (um 5) (fin false 5404319552844595 (negsuc 52)) (fin fals
 in-tenths = rw (six-tenths, eight-tenths)
 
 distance-6 : distanceAnswer S (at 6 2) ≡ Away (away (um 2) (um 1) (um 0))
-unfolding distanceAnswer answerFor outlineTested signTested shapeTested valuesTested areaTested pointTested areaOf containsOf crossesOf oddly any fold run edges add sub mul div neg lt le eq ofInt
+unfolding distanceAnswer answerFor outlineTested signTested shapeTested valuesTested pointTested areaOf containsOf crossesOf oddly any fold run edges add sub mul div neg lt le eq ofInt
 distance-6 = signed-at (at 6 2) false _ _ nearest-6 signed-6
 
 distance-1 : distanceAnswer S (at 1 2) ≡ Away (away (neg (um 1)) (neg (um 1)) (neg (um 0)))
-unfolding distanceAnswer answerFor outlineTested signTested shapeTested valuesTested areaTested pointTested areaOf containsOf crossesOf oddly any fold run edges add sub mul div neg lt le eq ofInt
+unfolding distanceAnswer answerFor outlineTested signTested shapeTested valuesTested pointTested areaOf containsOf crossesOf oddly any fold run edges add sub mul div neg lt le eq ofInt
 distance-1 = signed-at (at 1 2) true _ _ nearest-1 signed-1
 
 distance-7 : distanceAnswer S (at 7 8) ≡ Away (away (um 5) (tenths 6) (tenths 8))
-unfolding distanceAnswer answerFor outlineTested signTested shapeTested valuesTested areaTested pointTested areaOf containsOf crossesOf oddly any fold run edges add sub mul div neg lt le eq ofInt
+unfolding distanceAnswer answerFor outlineTested signTested shapeTested valuesTested pointTested areaOf containsOf crossesOf oddly any fold run edges add sub mul div neg lt le eq ofInt
 distance-7 = signed-at (at 7 8) false _ _ nearest-7 signed-7 ∙ in-tenths
 
 -- the nearest of two outlines: the magnitude of each first
@@ -229,8 +231,8 @@ nearest-both =
     (ap (λ (o : List Float). magnitudeOf o (at 7 2)) (outlines-of-both .0) ∙ magnitude-left)
     (ap (λ (o : List Float). magnitudeOf o (at 7 2)) (outlines-of-both .1) ∙ magnitude-right))
 
-both-passes : pointTestedIn (at 7 2) (setTested both fours) ≡ Passed
-unfolding pointTestedIn setTested sizesTested outlinesTested outlinesOf outlineAt startOf any fold run edges areaOf total add sub mul div neg lt le eq ofInt
+both-passes : pointTested (at 7 2) (setTested both fours) ≡ Passed
+unfolding pointTested setTested sizesTested outlinesTested outlinesOf outlineAt startOf any fold run edges areaOf total add sub mul div neg lt le eq ofInt
 both-passes = refl
 
 found-both : nearest-of both fours (at 7 2) ≡ At (record { outline = 0; distance = um 3 })
@@ -242,5 +244,5 @@ also e es = rw (e, es)
 
 -- every example holds
 pub starred-hold : map (λ (e : Example). e .gives) starred ≡ map (λ (e : Example). e .said) starred
-unfolding starred areaAnswer perimeterAnswer containsAnswer locateAnswer madeList answerFor outlineTested signTested shapeTested valuesTested areaTested pointTested areaOf containsOf crossesOf locateOf onEdge lengthOf edgeLength ellipseAnswer ellipseFits offsetFits pieceNear ellipseNear ellipseFoot ellipseNearest longNearest quadrantNearest onAxis copysignOf absOf withSign signBit maxOf before hypotOf sqrtOf total any oddly fold run edges vertices add sub mul div neg lt le eq ofInt fillAnswer fillTested roomTested cellTested boxFits filled longOf fillOf xdyOf clipOf joined onward joint keptLines turned lastKept lead parts partsOf partOf crosses inside Rattle.clip.specs.Clip.at alongOf flatMap ne meetingOf apart indexOf treeOn hullOf hull wideAt boxAt widenedOf scaleOf sort insert isNan
+unfolding starred areaAnswer perimeterAnswer containsAnswer locateAnswer madeList makeTested answerFor outlineTested signTested shapeTested valuesTested pointTested areaOf containsOf crossesOf locateOf onEdge lengthOf edgeLength ellipseAnswer ellipseTested ellipseFits offsetFits pieceNear ellipseNear ellipseFoot ellipseNearest longNearest quadrantNearest onAxis copysignOf absOf withSign signBit maxOf before hypotOf sqrtOf total any oddly fold run edges vertices add sub mul div neg lt le eq ofInt fillAnswer fillTested roomTested cellTested boxFits filled longOf fillOf xdyOf clipOf joined onward joint keptLines turned lastKept lead parts partsOf partOf crosses inside Rattle.clip.specs.Clip.at alongOf flatMap ne meetingOf apart indexOf treeOn hullOf hull wideAt boxAt widenedOf scaleOf sort insert isNan
 starred-hold = also (ap finds found-both) (also (ap answers distance-6) (also (ap answers distance-1) (also (ap answers distance-7) refl)))

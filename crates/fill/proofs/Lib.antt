@@ -1,4 +1,4 @@
 -- Laws of the fill.
 
--- The list that goes into the clips, and what the tests tell.
+-- The list that goes into the clips.
 pub mod FillLaws

@@ -10,7 +10,7 @@ use Rattle.boundary.specs.Folds.{total}
 use Rattle.clip.specs.declared.Side.{Side}
 use Rattle.clip.specs.Clip.{clipOf}
 use Rattle.boundary.specs.declared.Bounds.{Bounds}
-use Rattle.geometry.specs.Polygon.{two}
+use Rattle.accept.specs.Area.{two}
 
 -- ---- the four clipped lists
 abbrev pub lowX : Bounds → Side

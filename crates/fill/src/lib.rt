@@ -5,9 +5,9 @@ pub mod tests;
 ghost use mathlib.Core.Path.{_≡_};
 ghost use lib.ListN.{length};
 ghost use Rattle.fill.specs.Answers.{fillAnswer, fillBuffer};
+use accept::Answer;
+use accept::Test;
 use boundary::Bounds;
-use geometry::Answer;
-use geometry::Verdict;
 
 // The fill of the cell c, with w as working space.
 pub fn fill(v: &[f64], c: Bounds, w: &mut [f64]) -> Answer
@@ -15,7 +15,7 @@ pub fn fill(v: &[f64], c: Bounds, w: &mut [f64]) -> Answer
         × (now (w .exit) ≡ fillBuffer (now (v .entry)) c (now (w .entry))) ⌝ }
 {
     match tests::fill_tested(v, c, w.len()) {
-        Verdict::Passed(_) => cell::fill_in(v, c, w),
-        Verdict::Failed(r) => Answer::Refused(r),
+        Test::Passed => cell::fill_in(v, c, w),
+        Test::Failed(r) => Answer::Refused(r),
     }
 }

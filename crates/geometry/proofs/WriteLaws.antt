@@ -13,7 +13,7 @@ use Rattle.boundary.specs.Folds.{run}
 use Rattle.boundary.specs.Outline.{count, vertexAt, vertices}
 use Rattle.boundary.proofs.RunLaws.{run-last, reverse-run}
 use Rattle.geometry.specs.Making.{turned, numbers}
-use Rattle.geometry.specs.Lists.{atFront}
+use Rattle.accept.specs.Lists.{atFront}
 
 numbers-append : (ps qs : List Point) → numbers (ps ++ qs) ≡ numbers ps ++ numbers qs
 unfolding numbers

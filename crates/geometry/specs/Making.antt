@@ -5,17 +5,15 @@ use Prim.Native.Nat.{ℕ, _-_}
 use lib.Dec.{ltb}
 use lib.ListN.{length, take}
 use lib.Ieee.{Float, lt}
-use Rattle.number.specs.Exact.{zeroᶠ}
 use Rattle.boundary.specs.declared.Point.{Point}
-use Rattle.boundary.specs.Outline.{count, vertexAt, vertices}
-use Rattle.geometry.specs.declared.Answer.{Answer}
-use Rattle.geometry.specs.declared.Answer.the-variants.{Refused, Told}
-use Rattle.geometry.specs.declared.Refusal.the-variants.{ShortBuffer}
-use Rattle.geometry.specs.declared.Verdict.{Verdict}
-use Rattle.geometry.specs.declared.Verdict.the-variants.{Passed, Failed}
-use Rattle.geometry.specs.Refusals.{samePoint, shapeTested}
-use Rattle.geometry.specs.Answers.{answerFor}
-use Rattle.geometry.specs.Lists.{atFront}
+use Rattle.boundary.specs.Outline.{count, vertexAt, vertices, edges}
+use Rattle.accept.specs.declared.Answer.{Answer}
+use Rattle.accept.specs.declared.Answer.the-variants.{Told}
+use Rattle.accept.specs.declared.Test.{Test}
+use Rattle.accept.specs.Area.{areaOf}
+use Rattle.accept.specs.Refusals.{samePoint, negativeArea, shapeTested, roomTested}
+use Rattle.accept.specs.Answers.{answerFor}
+use Rattle.accept.specs.Lists.{writtenFor}
 
 -- the last vertex repeats the first
 unfoldable pub closed : List Float → Bool
@@ -34,10 +32,14 @@ kept v = take (keptCount v) v
 abbrev pub tooShort : List Float → ℕ → Bool
 tooShort v room = ltb room (length v)
 
--- what making answers: the number of vertices
+-- the tests, and what making answers: the number of vertices
+unfoldable pub makeTested : List Float → ℕ → Test
+unfolding kept shapeTested roomTested
+makeTested v room = roomTested (tooShort v room) (shapeTested (kept v))
+
 unfoldable pub makeAnswer : List Float → ℕ → Answer
-unfolding answerFor kept shapeTested
-makeAnswer v room = answerFor (shapeTested (kept v)) (λ a. cond (tooShort v room) (Refused ShortBuffer) (Told (count (kept v))))
+unfolding answerFor makeTested kept
+makeAnswer v room = answerFor (makeTested v room) (Told (count (kept v)))
 
 -- the vertices in order, or where `back` holds from the last to the first
 unfoldable pub turned : Bool → List Point → List Point
@@ -48,12 +50,7 @@ unfoldable pub numbers : List Point → List Float
 numbers [] = []
 numbers (p ∷ ps) = p .x ∷ p .y ∷ numbers ps
 
--- the lent list then, from what the tests say: the made outline, or nothing written
-unfoldable pub writtenFor : List Float → List Float → Verdict → List Float
-unfolding kept numbers turned vertices atFront lt
-writtenFor v out (Passed a) = cond (tooShort v (length out)) out (atFront (numbers (turned (lt a zeroᶠ) (vertices (kept v)))) out)
-writtenFor v out (Failed r) = out
-
+-- the lent list then: the made outline, or nothing written
 unfoldable pub madeList : List Float → List Float → List Float
-unfolding writtenFor kept shapeTested
-madeList v out = writtenFor v out (shapeTested (kept v))
+unfolding writtenFor makeTested kept numbers turned vertices areaOf edges lt
+madeList v out = writtenFor (numbers (turned (negativeArea (kept v)) (vertices (kept v)))) out (makeTested v (length out))

@@ -1,28 +1,16 @@
--- An outline's area, containment, location and bounds, over its edges or vertices (document 01, geometry.rs). Definitions only.
+-- An outline's containment, location and bounds, over its edges or vertices (document 01, geometry.rs). Definitions only.
 use mathlib.Core.Bool.{Bool, true, false, _&&_, cond}
 use mathlib.Core.List.{List}
 use Prim.Native.Nat.{ℕ, _-_}
 use lib.Dec.{eqb}
-use lib.IntN.{pos}
-use lib.Ieee.{Float, inf, fin, binary64, unlike, add, sub, mul, div, lt, le, eq}
+use lib.Ieee.{Float, inf, binary64, unlike, add, sub, mul, div, lt, le, eq}
 use Rattle.number.specs.Exact.{zeroᶠ}
 use Rattle.boundary.specs.declared.Point.{Point}
 use Rattle.boundary.specs.declared.Edge.{Edge}
 use Rattle.boundary.specs.declared.Bounds.{Bounds}
 use Rattle.boundary.specs.Boxes.{lesser, greater}
-use Rattle.boundary.specs.Folds.{run, fold, any, oddly, total}
+use Rattle.boundary.specs.Folds.{run, fold, any, oddly}
 use Rattle.boundary.specs.Outline.{count, vertexAt}
-
--- ---- area: half the shoelace sum
-abbrev pub crossOf : Edge → Float
-crossOf e = sub binary64 (mul binary64 (e .a .x) (e .b .y)) (mul binary64 (e .b .x) (e .a .y))
-
-abbrev pub two : Float
-two = fin false 1 (pos 1)
-
-unfoldable pub areaOf : List Edge → Float
-unfolding total sub mul div
-areaOf es = div binary64 (total crossOf es) two
 
 -- ---- containment: an edge counts when exactly one end has y above the point and the point's x is strictly below the crossing
 unfoldable pub crossesOf : Point → Edge → Bool

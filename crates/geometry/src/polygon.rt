@@ -8,11 +8,12 @@ ghost use Rattle.boundary.specs.Outline.{vertices, edges};
 ghost use Rattle.geometry.specs.Polygon.{crossesOf, containsOf, between, turnOf, onEdge, locateOf, nowhere, stretched, boundsOf};
 ghost use Rattle.geometry.specs.Answers.{areaAnswer, perimeterAnswer, boundsAnswer, containsAnswer, locateAnswer, distanceAnswer};
 ghost use Rattle.geometry.specs.Making.{keptCount, turned, numbers, makeAnswer, madeList};
-ghost use Rattle.geometry.specs.Lists.{atFront};
-use crate::Answer;
-use crate::Refusal;
-use crate::Verdict;
-use crate::refusals;
+ghost use Rattle.accept.specs.Lists.{atFront};
+use accept::Answer;
+use accept::Refusal;
+use accept::Test;
+use accept::Verdict;
+use accept::refusals;
 use boundary::Bounds;
 use boundary::Edge;
 use boundary::Point;
@@ -131,9 +132,9 @@ pub fn box_of(v: &[f64]) -> Bounds
 pub fn area(v: &[f64]) -> Answer
     ensures { λ r. ⌜ r ≡ areaAnswer (now (v .entry)) ⌝ }
 {
-    match refusals::outline_tested(v) {
-        Verdict::Passed(a) => Answer::Measure(a),
-        Verdict::Failed(r) => Answer::Refused(r),
+    match refusals::outline_verdict(v) {
+        Verdict::Area(a) => Answer::Measure(a),
+        Verdict::TurnedAway(r) => Answer::Refused(r),
     }
 }
 
@@ -141,8 +142,8 @@ pub fn perimeter(v: &[f64]) -> Answer
     ensures { λ r. ⌜ r ≡ perimeterAnswer (now (v .entry)) ⌝ }
 {
     match refusals::outline_tested(v) {
-        Verdict::Passed(_) => Answer::Measure(boundary::length(v)),
-        Verdict::Failed(r) => Answer::Refused(r),
+        Test::Passed => Answer::Measure(boundary::length(v)),
+        Test::Failed(r) => Answer::Refused(r),
     }
 }
 
@@ -150,8 +151,8 @@ pub fn bounds(v: &[f64]) -> Answer
     ensures { λ r. ⌜ r ≡ boundsAnswer (now (v .entry)) ⌝ }
 {
     match refusals::outline_tested(v) {
-        Verdict::Passed(_) => Answer::Box(box_of(v)),
-        Verdict::Failed(r) => Answer::Refused(r),
+        Test::Passed => Answer::Box(box_of(v)),
+        Test::Failed(r) => Answer::Refused(r),
     }
 }
 
@@ -159,8 +160,8 @@ pub fn contains(v: &[f64], p: Point) -> Answer
     ensures { λ r. ⌜ r ≡ containsAnswer (now (v .entry)) p ⌝ }
 {
     match refusals::point_tested(p, refusals::outline_tested(v)) {
-        Verdict::Passed(_) => Answer::Told(if holds(v, p) { 1 } else { 0 }),
-        Verdict::Failed(r) => Answer::Refused(r),
+        Test::Passed => Answer::Told(if holds(v, p) { 1 } else { 0 }),
+        Test::Failed(r) => Answer::Refused(r),
     }
 }
 
@@ -168,8 +169,8 @@ pub fn locate(v: &[f64], p: Point) -> Answer
     ensures { λ r. ⌜ r ≡ locateAnswer (now (v .entry)) p ⌝ }
 {
     match refusals::point_tested(p, refusals::outline_tested(v)) {
-        Verdict::Passed(_) => Answer::Told(location(v, p)),
-        Verdict::Failed(r) => Answer::Refused(r),
+        Test::Passed => Answer::Told(location(v, p)),
+        Test::Failed(r) => Answer::Refused(r),
     }
 }
 
@@ -178,8 +179,8 @@ pub fn distance(v: &[f64], p: Point) -> Answer
     ensures { λ r. ⌜ r ≡ distanceAnswer (now (v .entry)) p ⌝ }
 {
     match refusals::point_tested(p, refusals::outline_tested(v)) {
-        Verdict::Passed(_) => Answer::Away(boundary::nearest::distance(v, p, holds(v, p))),
-        Verdict::Failed(r) => Answer::Refused(r),
+        Test::Passed => Answer::Away(distance::nearest::distance(v, p, holds(v, p))),
+        Test::Failed(r) => Answer::Refused(r),
     }
 }
 
@@ -229,13 +230,13 @@ pub fn new(v: &[f64], out: &mut [f64]) -> Answer
     let m = kept_count(v);
     let kept = &v[..m];
     match refusals::shape_tested(kept) {
-        Verdict::Passed(a) => {
+        Verdict::Area(a) => {
             if out.len() < v.len() {
                 return Answer::Refused(Refusal::ShortBuffer);
             }
             write(kept, a < 0.0, out);
             Answer::Told((m / 2) as u32)
         }
-        Verdict::Failed(r) => Answer::Refused(r),
+        Verdict::TurnedAway(r) => Answer::Refused(r),
     }
 }

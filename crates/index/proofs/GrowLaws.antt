@@ -1,7 +1,7 @@
 -- What building over a whole list leaves, and what a list that passes the tests has. Assumes nothing.
 use mathlib.Core.Path.{_≡_, refl, sym, ap, subst, _∙_}
-use mathlib.Core.Bool.{Bool, true, false, not, cond, _||_, true≢false}
-use mathlib.Core.List.{List, [], _∷_, _++_}
+use mathlib.Core.Bool.{Bool, true, false, not, _||_, true≢false}
+use mathlib.Core.List.{List, [], _∷_, _++_, flatMap}
 use Prim.Native.Nat.{ℕ, zero, suc, _+_, _-_, _*_, _%_, _≤_}
 use native.Mathlib.Nat.{sub-zero}
 use native.Mathlib.Omega.{arith}
@@ -14,20 +14,19 @@ use Rattle.boundary.specs.declared.Bounds.{Bounds}
 use Rattle.sorts.specs.Sort.{sort, Each, Sorted}
 use Rattle.sorts.proofs.PartLaws.{sort-sorted}
 use Rattle.boundary.specs.Folds.{run, any}
-use Rattle.geometry.specs.declared.Refusal.{Refusal}
-use Rattle.geometry.specs.declared.Refusal.the-variants.{TooMany, BadBox}
-use Rattle.geometry.specs.Lists.{atFront}
-use Rattle.index.specs.declared.Test.{Test}
-use Rattle.index.specs.declared.Test.the-variants.{Passed, Failed}
-use Rattle.index.specs.Entries.{boxCount, boxNumbers, flat, boxesOf, wideAt, centreOf}
-use Rattle.index.specs.Tree.{Tree, leaf, hullOf, treeIn, indexOf, itemsOf}
-use Rattle.index.specs.Layout.{extra, nodeOf, below, nodesOf, cornersOf, linksOf, Grown}
+use Rattle.accept.specs.declared.Refusal.the-variants.{TooMany, BadBox}
+use Rattle.accept.specs.declared.Test.the-variants.{Passed}
+use Rattle.accept.specs.Lists.{atFront}
+use Rattle.accept.proofs.TestLaws.{passes, passes-else, room-passed}
+use Rattle.entries.specs.Entries.{boxCount, boxNumbers, boxesOf, wideAt, centreOf}
+use Rattle.splits.specs.Tree.{Tree, leaf, hullOf, treeIn, indexOf, itemsOf}
+use Rattle.nodes.specs.Layout.{extra, nodeOf, below, nodesOf, cornersOf, linksOf, Grown}
 use Rattle.boundary.specs.Boxes.{boxFits}
-use Rattle.index.specs.Answers.{boxesTested, cellTested, roomTested, shortIndex, buildTested, Stored, Accepted}
-use Rattle.index.proofs.StoreLaws.{length-run, sets-front, flat-length}
-use Rattle.index.proofs.EntryLaws.{wide-held, centres-held}
-use Rattle.index.proofs.TreeLaws.{tree-leaf, length-items, nodes-suffice}
-use Rattle.index.proofs.LayoutLaws.{length-below, placed-front}
+use Rattle.index.specs.Answers.{boxesTested, shortIndex, buildTested, Stored, Accepted}
+use Rattle.entries.proofs.StoreLaws.{length-run, sets-front, flat-length}
+use Rattle.entries.proofs.EntryLaws.{wide-held, centres-held}
+use Rattle.nodes.proofs.TreeLaws.{tree-leaf, length-items, nodes-suffice}
+use Rattle.nodes.proofs.LayoutLaws.{length-below, placed-front}
 
 -- the first k of a list that begins with F
 pub front-of : {A : Type 0} (s₀ s F : List A) (k : ℕ) → s ≡ sets s₀ 0 F → length F ≡ k → k ≤ length s₀ → take (k - 0) (drop 0 s) ≡ F
@@ -65,7 +64,7 @@ module _ (v : List Float) where
   index-nodes h = nodes-suffice (wideAt v) (λ i. centreOf (wideAt v i)) numbers (rw (length-run (λ i. i) 0 n) h)
 
   module _ (whole : length v % 4 ≡ 0) (W₀ W X₀ X Y₀ Y : List Float)
-      (eW : W ≡ sets W₀ 0 (flat boxNumbers (run (wideAt v) 0 n))) (eX : X ≡ sets X₀ 0 (run (λ i. centreOf (wideAt v i) .x) 0 n)) (eY : Y ≡ sets Y₀ 0 (run (λ i. centreOf (wideAt v i) .y) 0 n))
+      (eW : W ≡ sets W₀ 0 (flatMap boxNumbers (run (wideAt v) 0 n))) (eX : X ≡ sets X₀ 0 (run (λ i. centreOf (wideAt v i) .x) 0 n)) (eY : Y ≡ sets Y₀ 0 (run (λ i. centreOf (wideAt v i) .y) 0 n))
       (lW : 4 * n ≤ length W₀) (lX : n ≤ length X₀) (lY : n ≤ length Y₀) where
     -- the tree over what the lists hold is the index
     held-tree : treeIn (take (4 * n - 0) (drop 0 W)) (take (n - 0) (drop 0 X)) (take (n - 0) (drop 0 Y)) numbers ≡ indexOf v
@@ -73,7 +72,7 @@ module _ (v : List Float) where
     held-tree =
         let b = flat-length boxNumbers 4 (λ _. refl) (run (wideAt v) 0 n) in
         let l = length-run (wideAt v) 0 n in
-        let w = front-of W₀ W (flat boxNumbers (run (wideAt v) 0 n)) (4 * n) eW (omega arith) lW in
+        let w = front-of W₀ W (flatMap boxNumbers (run (wideAt v) 0 n)) (4 * n) eW (omega arith) lW in
         let x = front-of X₀ X (run (λ i. centreOf (wideAt v i) .x) 0 n) n eX (length-run (λ i. centreOf (wideAt v i) .x) 0 n) lX in
         let y = front-of Y₀ Y (run (λ i. centreOf (wideAt v i) .y) 0 n) n eY (length-run (λ i. centreOf (wideAt v i) .y) 0 n) lY in
         rw (w, x, y, wide-held v whole, centres-held v whole)
@@ -100,7 +99,7 @@ module _ (v : List Float) where
 -- a leaf, put
 leaf-put : (b : Bounds) (is : List ℕ) (C C′ : List Float) (L L′ I I′ : List ℕ) → 4 ≤ length C → 2 ≤ length L → C′ ≡ sets C 0 (boxNumbers b) → L′ ≡ sets L 0 (0 ∷ length is ∷ []) → I′ ≡ is ++ drop (length is) I
     → Stored (leaf b is) C L I 1 C′ L′ I′
-unfolding atFront nodesOf nodeOf below itemsOf flat
+unfolding atFront nodesOf nodeOf below itemsOf flatMap
 leaf-put b is C C′ L L′ I I′ c l ec el ei = record { nodes = refl; corners = ec ∙ sets-front C (boxNumbers b) c; links = el ∙ sets-front L (0 ∷ length is ∷ []) l; items = ei }
 
 -- four boxes at most are one leaf
@@ -122,19 +121,6 @@ pub or-none : (a b : Bool) → (a || b) ≡ false → (a ≡ false) × (b ≡ fa
 or-none true b e = absurd (true≢false e)
 or-none false b e = (refl, e)
 
-abbrev failed : Test → Bool
-failed Passed = false
-failed (Failed r) = true
-
-pub never : {r : Refusal} → Failed r ≡ Passed → ⊥
-never e = true≢false (ap failed e)
-
-pub room-passed : (s : Bool) (t : Test) → roomTested s t ≡ Passed → (s ≡ false) × (t ≡ Passed)
-unfolding roomTested
-room-passed true Passed e = absurd (never e)
-room-passed false Passed e = (refl, refl)
-room-passed s (Failed r) e = absurd (never e)
-
 -- what tests 4 and 11 say of a list that passes them
 record Fit (v : List Float) : Type 0 where
   size : length v ≤ 4096
@@ -143,25 +129,17 @@ record Fit (v : List Float) : Type 0 where
 
 fit-of : (v : List Float) → boxesTested v ≡ Passed → Fit v
 unfolding boxesTested
-fit-of v = go (ltb 4096 (length v)) refl (eqb (length v % 4) 0) refl (any (λ x. not (boxFits x)) (boxesOf v)) refl
-  where
-    go : (a : Bool) → ltb 4096 (length v) ≡ a → (b : Bool) → eqb (length v % 4) 0 ≡ b → (c : Bool) → any (λ x. not (boxFits x)) (boxesOf v) ≡ c
-        → cond a (Failed TooMany) (cond b (cond c (Failed BadBox) Passed) (Failed BadBox)) ≡ Passed → Fit v
-    go true e b f c g p = absurd (never p)
-    go false e true f true g p = absurd (never p)
-    go false e true f false g p = record { size = ltb-false 4096 (length v) e; whole = eqb-true (length v % 4) 0 f; fit = g }
-    go false e false f c g p = absurd (never p)
+fit-of v p =
+    let t4 = passes (ltb 4096 (length v)) TooMany _ p in
+    let whole = passes-else (eqb (length v % 4) 0) BadBox _ (t4 .1) in
+    let fit = passes (any (λ x. not (boxFits x)) (boxesOf v)) BadBox Passed (whole .1) in
+    record { size = ltb-false 4096 (length v) (t4 .0); whole = eqb-true (length v % 4) 0 (whole .0); fit = fit .0 }
 
 pub boxes-passed : (v : List Float) → boxesTested v ≡ Passed → (length v ≤ 4096) × (length v % 4 ≡ 0)
 boxes-passed v p = (fit-of v p .size, fit-of v p .whole)
 
 pub boxes-fit : (v : List Float) → boxesTested v ≡ Passed → any (λ b. not (boxFits b)) (boxesOf v) ≡ false
 boxes-fit v p = fit-of v p .fit
-
-pub cell-passed : (c : Bounds) (t : Test) → cellTested c t ≡ Passed → t ≡ Passed
-unfolding cellTested
-cell-passed c Passed e = refl
-cell-passed c (Failed r) e = absurd (never e)
 
 pub accepted-of : (v : List Float) (c l i : ℕ) → shortIndex c l i ≡ false → boxesTested v ≡ Passed → Accepted v c l i
 accepted-of v c l i e p =

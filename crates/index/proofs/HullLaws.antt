@@ -20,7 +20,7 @@ use Rattle.boundary.proofs.AlongLaws.{ends-between, one-of}
 use Rattle.geometry.specs.Polygon.{nowhere}
 use Rattle.sorts.specs.Sort.{sort, times, In}
 use Rattle.sorts.proofs.SortLaws.{times-sort}
-use Rattle.index.specs.Tree.{hull, hullOf}
+use Rattle.splits.specs.Tree.{hull, hullOf}
 use Rattle.boundary.specs.Boxes.{boxFits}
 
 -- ---- boxes without NaN

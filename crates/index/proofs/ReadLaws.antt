@@ -1,6 +1,6 @@
 -- What the build leaves holds the tree: each node stands at its number, each leaf's items at its place. Assumes nothing.
 use mathlib.Core.Path.{_≡_, refl, sym, ap, ap₂, _∙_}
-use mathlib.Core.List.{List, [], _∷_, _++_}
+use mathlib.Core.List.{List, [], _∷_, _++_, flatMap}
 use Prim.Native.Nat.{ℕ, zero, suc, _+_, _*_, _^_, _≤_, _<_}
 use native.Mathlib.Nat.{add-zero, pow-suc}
 use native.Mathlib.Omega.{arith}
@@ -11,15 +11,15 @@ use lib.Ieee.{Float, nan}
 use Rattle.boundary.specs.declared.Point.{Point}
 use Rattle.boundary.specs.declared.Bounds.{Bounds}
 use Rattle.boundary.specs.Folds.{run}
-use Rattle.geometry.specs.Lists.{atFront}
+use Rattle.accept.specs.Lists.{atFront}
 use Rattle.sorts.proofs.SortLaws.{length-sort}
-use Rattle.index.specs.declared.Node.{Node}
-use Rattle.index.specs.Entries.{boxAt, flat}
-use Rattle.index.specs.Tree.{Tree, leaf, inner, hullOf, treeOf, itemsOf}
-use Rattle.index.specs.Layout.{extra, nodeOf, below, nodesOf, cornersOf, linksOf, itemAt, firstAt, countAt}
-use Rattle.index.proofs.StoreLaws.{length-run, run-at, flat-at}
-use Rattle.index.proofs.TreeLaws.{left, right, length-left, length-right, tree-induct}
-use Rattle.index.proofs.LayoutLaws.{length-below}
+use Rattle.nodes.specs.declared.Node.{Node}
+use Rattle.entries.specs.Entries.{boxAt}
+use Rattle.splits.specs.Tree.{Tree, leaf, inner, hullOf, treeOf, itemsOf}
+use Rattle.nodes.specs.Layout.{extra, nodeOf, below, nodesOf, cornersOf, linksOf, itemAt, firstAt, countAt}
+use Rattle.entries.proofs.StoreLaws.{length-run, run-at, flat-at}
+use Rattle.nodes.proofs.TreeLaws.{left, right, length-left, length-right, tree-induct}
+use Rattle.nodes.proofs.LayoutLaws.{length-below}
 
 abbrev pub boxOf : Node → Bounds
 boxOf x = record { min = x .lo; max = x .hi }
@@ -91,17 +91,17 @@ module _ (B : List Float) (L I : List ℕ) where
 -- ---- what the build leaves
 module _ (N : List Node) (RB : List Float) (RL : List ℕ) (e : Node) where
   -- the node j of the list N
-  pub node-is : (I : List ℕ) (j : ℕ) → j < length N → NodeIs (flat cornersOf N ++ RB) (flat linksOf N ++ RL) I j (getD N j e)
+  pub node-is : (I : List ℕ) (j : ℕ) → j < length N → NodeIs (flatMap cornersOf N ++ RB) (flatMap linksOf N ++ RL) I j (getD N j e)
   unfolding boxAt
   node-is I j h =
       let four : 4 * j + 0 ≡ 4 * j = omega arith in
       let two : 2 * j + 0 ≡ 2 * j = omega arith in
-      let corner : (k : ℕ) → k < 4 → getD (flat cornersOf N ++ RB) (4 * j + k) nan ≡ getD (cornersOf (getD N j e)) k nan = λ k l. flat-at cornersOf 4 (λ _. refl) N RB j k nan e h l in
-      let link : (k : ℕ) → k < 2 → getD (flat linksOf N ++ RL) (2 * j + k) 0 ≡ getD (linksOf (getD N j e)) k 0 = λ k l. flat-at linksOf 2 (λ _. refl) N RL j k 0 e h l in
-      let left = ap (λ (k : ℕ). getD (flat cornersOf N ++ RB) k nan) (sym four) ∙ corner 0 (omega arith) in
+      let corner : (k : ℕ) → k < 4 → getD (flatMap cornersOf N ++ RB) (4 * j + k) nan ≡ getD (cornersOf (getD N j e)) k nan = λ k l. flat-at cornersOf 4 (λ _. refl) N RB j k nan e h l in
+      let link : (k : ℕ) → k < 2 → getD (flatMap linksOf N ++ RL) (2 * j + k) 0 ≡ getD (linksOf (getD N j e)) k 0 = λ k l. flat-at linksOf 2 (λ _. refl) N RL j k 0 e h l in
+      let left = ap (λ (k : ℕ). getD (flatMap cornersOf N ++ RB) k nan) (sym four) ∙ corner 0 (omega arith) in
       record {
         box = rw (left, corner 1 (omega arith), corner 2 (omega arith), corner 3 (omega arith));
-        first = ap (λ (k : ℕ). getD (flat linksOf N ++ RL) k 0) (sym two) ∙ link 0 (omega arith);
+        first = ap (λ (k : ℕ). getD (flatMap linksOf N ++ RL) k 0) (sym two) ∙ link 0 (omega arith);
         count = link 1 (omega arith);
       }
 
@@ -112,12 +112,12 @@ run-front xs rest =
     (λ i h. let l : i < length xs = rw n at h in let z : 0 + i ≡ i = omega arith in run-at (itemAt (xs ++ rest)) 0 (length xs) i 0 l ∙ ap (itemAt (xs ++ rest)) z ∙ List·getD-append xs rest 0 i l)
 
 -- THE BUFFER holds the tree
-pub stored-holds : (t : Tree) (C : List Float) (L is : List ℕ) → Holds (atFront (flat cornersOf (nodesOf t)) C) (atFront (flat linksOf (nodesOf t)) L) (atFront (itemsOf t) is) t 0 0 1
+pub stored-holds : (t : Tree) (C : List Float) (L is : List ℕ) → Holds (atFront (flatMap cornersOf (nodesOf t)) C) (atFront (flatMap linksOf (nodesOf t)) L) (atFront (itemsOf t) is) t 0 0 1
 unfolding atFront nodesOf
 stored-holds t C L is =
     let N = nodeOf t 0 1 ∷ below t 0 1 in
     let n = length-below t 0 1 in
-    let at = node-is N (drop (length (flat cornersOf N)) C) (drop (length (flat linksOf N)) L) (nodeOf t 0 1) (itemsOf t ++ drop (length (itemsOf t)) is) in
+    let at = node-is N (drop (length (flatMap cornersOf N)) C) (drop (length (flatMap linksOf N)) L) (nodeOf t 0 1) (itemsOf t ++ drop (length (itemsOf t)) is) in
     record {
       own = at 0 (omega arith);
       rest = λ j h. same _ _ _ (suc j) (1 + j) _ _ (omega arith) refl (at (suc j) (omega arith));

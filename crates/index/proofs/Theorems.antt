@@ -14,14 +14,14 @@ use Rattle.boundary.specs.Boxes.{Around}
 use Rattle.boundary.specs.Folds.{run, fold, any}
 use Rattle.sorts.specs.Sort.{sort, times, In}
 use Rattle.sorts.proofs.SortLaws.{times-sort, times-append}
-use Rattle.index.specs.declared.Test.the-variants.{Passed}
-use Rattle.index.specs.Entries.{boxCount, boxAt, boxesOf, wideAt, centreOf}
-use Rattle.index.specs.Tree.{Tree, leaf, inner, hullOf, treeOf, indexOf, itemsOf, EachNode}
-use Rattle.index.specs.Layout.{nodesOf}
+use Rattle.accept.specs.declared.Test.the-variants.{Passed}
+use Rattle.entries.specs.Entries.{boxCount, boxAt, boxesOf, wideAt, centreOf}
+use Rattle.splits.specs.Tree.{Tree, leaf, inner, hullOf, treeOf, indexOf, itemsOf, EachNode}
+use Rattle.nodes.specs.Layout.{nodesOf}
 use Rattle.boundary.specs.Boxes.{boxFits}
 use Rattle.index.specs.Answers.{boxesTested}
-use Rattle.index.proofs.TreeLaws.{left, right, times-halves, tree-induct}
-use Rattle.index.proofs.StoreLaws.{length-run}
+use Rattle.nodes.proofs.TreeLaws.{left, right, times-halves, tree-induct}
+use Rattle.entries.proofs.StoreLaws.{length-run}
 use Rattle.index.proofs.ReadLaws.{Deep, tree-deep}
 use Rattle.index.proofs.GrowLaws.{or-none, boxes-passed, boxes-fit, index-nodes}
 use Rattle.index.proofs.HullLaws.{NumberBox, fits-wide, hull-of-number, hull-of-around, hull-of-within}

@@ -1,41 +1,30 @@
--- The tests of a box list and of a cell, in document 01's order, and what building answers. Definitions only.
+-- The tests of a box list, in document 01's order, and what building answers. Definitions only.
 use mathlib.Core.Path.{_≡_}
 use mathlib.Core.Bool.{Bool, not, cond, _||_}
-use mathlib.Core.List.{List}
+use mathlib.Core.List.{List, flatMap}
 use Prim.Native.Nat.{ℕ, _%_, _≤_}
 use lib.Dec.{eqb, ltb}
 use lib.ListN.{length}
 use lib.Ieee.{Float}
-use Rattle.boundary.specs.declared.Bounds.{Bounds}
 use Rattle.boundary.specs.Boxes.{boxFits}
 use Rattle.boundary.specs.Folds.{any}
-use Rattle.geometry.specs.declared.Refusal.the-variants.{TooMany, BadBox, ShortBuffer}
-use Rattle.geometry.specs.Lists.{atFront}
-use Rattle.geometry.specs.Refusals.{number}
-use Rattle.index.specs.declared.Test.{Test}
-use Rattle.index.specs.declared.Test.the-variants.{Passed, Failed}
+use Rattle.accept.specs.declared.Refusal.the-variants.{TooMany, BadBox}
+use Rattle.accept.specs.declared.Test.{Test}
+use Rattle.accept.specs.declared.Test.the-variants.{Passed, Failed}
+use Rattle.accept.specs.Lists.{atFront, writtenFor}
+use Rattle.accept.specs.Refusals.{number, roomTested}
 use Rattle.index.specs.declared.Built.{Built}
 use Rattle.index.specs.declared.Built.the-variants.{Refused, Sized}
-use Rattle.index.specs.Entries.{boxesOf, flat}
-use Rattle.index.specs.Tree.{Tree, indexOf, itemsOf}
-use Rattle.index.specs.Layout.{nodesOf, cornersOf, linksOf}
+use Rattle.entries.specs.Entries.{boxesOf}
+use Rattle.splits.specs.Tree.{Tree, indexOf, itemsOf}
+use Rattle.nodes.specs.Layout.{nodesOf, cornersOf, linksOf}
 
--- ---- tests 4 and 11 of a box list, 11 of a cell, and 13
+-- ---- tests 4 and 11
 unfoldable pub boxesTested : List Float → Test
 unfolding boxFits boxesOf any
 boxesTested v =
     cond (ltb 4096 (length v)) (Failed TooMany)
     (cond (eqb (length v % 4) 0) (cond (any (λ b. not (boxFits b)) (boxesOf v)) (Failed BadBox) Passed) (Failed BadBox))
-
-unfoldable pub cellTested : Bounds → Test → Test
-unfolding boxFits
-cellTested c Passed = cond (boxFits c) Passed (Failed BadBox)
-cellTested c (Failed r) = Failed r
-
--- `short`: a lent buffer is shorter than its stated size
-unfoldable pub roomTested : Bool → Test → Test
-roomTested short Passed = cond short (Failed ShortBuffer) Passed
-roomTested short (Failed r) = Failed r
 
 -- an index buffer of so many corner numbers, link numbers and items is too short: 511 nodes and 1,024 items
 abbrev pub shortIndex : ℕ → ℕ → ℕ → Bool
@@ -51,12 +40,6 @@ unfolding nodesOf itemsOf
 builtFor t Passed = Sized (length (nodesOf t)) (length (itemsOf t))
 builtFor t (Failed r) = Refused r
 
--- what it puts into a lent list: xs at the front, and the places past their end unchanged; nothing where it refuses
-unfoldable pub writtenFor : {A : Type 0} → List A → List A → Test → List A
-unfolding atFront
-writtenFor xs s Passed = atFront xs s
-writtenFor xs s (Failed r) = s
-
 -- ---- building, by what the call is lent: the boxes, and the lists for corners, links and items
 -- what it answers
 unfoldable pub buildAnswer : List Float → List Float → List ℕ → List ℕ → Built
@@ -66,11 +49,11 @@ buildAnswer v C L I = builtFor (indexOf v) (buildTested v (length C) (length L) 
 -- what it leaves in the lists: all nodes' corners, all nodes' links, and the items
 unfoldable pub builtCorners : List Float → List Float → List ℕ → List ℕ → List Float
 unfolding writtenFor buildTested
-builtCorners v C L I = writtenFor (flat cornersOf (nodesOf (indexOf v))) C (buildTested v (length C) (length L) (length I))
+builtCorners v C L I = writtenFor (flatMap cornersOf (nodesOf (indexOf v))) C (buildTested v (length C) (length L) (length I))
 
 unfoldable pub builtLinks : List Float → List Float → List ℕ → List ℕ → List ℕ
 unfolding writtenFor buildTested
-builtLinks v C L I = writtenFor (flat linksOf (nodesOf (indexOf v))) L (buildTested v (length C) (length L) (length I))
+builtLinks v C L I = writtenFor (flatMap linksOf (nodesOf (indexOf v))) L (buildTested v (length C) (length L) (length I))
 
 unfoldable pub builtItems : List Float → List Float → List ℕ → List ℕ → List ℕ
 unfolding writtenFor buildTested
@@ -92,8 +75,8 @@ itemsIn (Sized n k) = k
 -- what building a tree leaves: how many nodes there are, their corners, their links and the items
 pub record Stored (t : Tree) (C : List Float) (L is : List ℕ) (r : ℕ) (C′ : List Float) (L′ is′ : List ℕ) : Type 0 where
   pub nodes : r ≡ length (nodesOf t)
-  pub corners : C′ ≡ atFront (flat cornersOf (nodesOf t)) C
-  pub links : L′ ≡ atFront (flat linksOf (nodesOf t)) L
+  pub corners : C′ ≡ atFront (flatMap cornersOf (nodesOf t)) C
+  pub links : L′ ≡ atFront (flatMap linksOf (nodesOf t)) L
   pub items : is′ ≡ atFront (itemsOf t) is
 
 -- a box list that passes the tests, and buffers of index size

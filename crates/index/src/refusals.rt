@@ -1,17 +1,16 @@
-// The tests of a box list and of a cell, in document 01's order.
+// The tests of a box list and of the buffers of its index, in document 01's order.
 ghost use mathlib.Core.Path.{_≡_};
 ghost use mathlib.Core.Bool.{not};
 ghost use Prim.Native.Nat.{_≤_};
 ghost use Rattle.boundary.specs.Folds.{any};
-ghost use Rattle.index.specs.Entries.{boxCount, boxesOf};
+ghost use Rattle.entries.specs.Entries.{boxCount, boxesOf};
 ghost use Rattle.boundary.specs.Boxes.{boxFits};
-ghost use Rattle.index.specs.Answers.{boxesTested, cellTested, roomTested, shortIndex, buildTested, builtNumber, nodesIn, itemsIn};
+ghost use Rattle.index.specs.Answers.{boxesTested, shortIndex, buildTested, builtNumber, nodesIn, itemsIn};
 use crate::Built;
-use crate::Test;
-use crate::entries;
-use boundary::Bounds;
-use geometry::Refusal;
-use geometry::refusals::box_fits;
+use accept::Refusal;
+use accept::Test;
+use accept::refusals::box_fits;
+use accept::refusals::room_tested;
 
 // Whether a box of the list is not one of the field, or has a minimum above its maximum.
 fn any_unfit(boxes: &[f64]) -> bool
@@ -44,38 +43,6 @@ pub fn boxes_tested(boxes: &[f64]) -> Test
     Test::Failed(Refusal::BadBox)
 }
 
-// Test 11 of a cell, after those of the boxes.
-pub fn cell_tested(c: Bounds, t: Test) -> Test
-    ensures { λ r. ⌜ r ≡ cellTested c t ⌝ }
-{
-    match t {
-        Test::Passed => {
-            if box_fits(c) {
-                Test::Passed
-            } else {
-                Test::Failed(Refusal::BadBox)
-            }
-        }
-        Test::Failed(r) => Test::Failed(r),
-    }
-}
-
-// Test 13.
-pub fn room_tested(short: bool, t: Test) -> Test
-    ensures { λ r. ⌜ r ≡ roomTested short t ⌝ }
-{
-    match t {
-        Test::Passed => {
-            if short {
-                Test::Failed(Refusal::ShortBuffer)
-            } else {
-                Test::Passed
-            }
-        }
-        Test::Failed(r) => Test::Failed(r),
-    }
-}
-
 // Whether an index buffer is too short.
 pub fn short_index(corners: usize, links: usize, items: usize) -> bool
     ensures { λ r. ⌜ r ≡ shortIndex corners links items ⌝ }
@@ -95,7 +62,7 @@ pub fn built_number(b: Built) -> u32
     ensures { λ r. ⌜ r ≡ builtNumber b ⌝ }
 {
     match b {
-        Built::Refused(r) => geometry::refusals::number_of(r),
+        Built::Refused(r) => accept::refusals::number_of(r),
         Built::Sized(_, _) => 0,
     }
 }

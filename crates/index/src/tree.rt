@@ -1,240 +1,15 @@
-// The build, which calls itself on both halves.
+// The index of a whole list of boxes, with the space that the build needs.
 ghost use mathlib.Core.Path.{_≡_};
-ghost use mathlib.Core.List.{[], _∷_};
-ghost use Prim.Native.Nat.{_*_, _/_, _≤_, _<_, _^_};
-ghost use lib.Dec.{leb};
+ghost use Prim.Native.Nat.{_*_, _≤_};
 ghost use lib.ListN.{length};
-ghost use lib.Seq.{sets};
 ghost use Rattle.boundary.specs.Folds.{run};
-ghost use Rattle.geometry.specs.Polygon.{stretched};
-ghost use Rattle.sorts.specs.Sort.{sort, Sorted, halves};
-ghost use Rattle.sorts.specs.Keys.{goes, keyIn};
-ghost use Rattle.index.specs.Entries.{boxCount, boxAt, wideAt, pointIn};
-ghost use Rattle.index.specs.Tree.{hull, hullOf, spreadOf, alongY, along, arranged, treeIn, indexOf};
-ghost use Rattle.index.specs.Layout.{Room, Settled, Grown};
+ghost use Rattle.entries.specs.Entries.{boxCount, wideAt};
+ghost use Rattle.splits.specs.Tree.{hullOf, indexOf};
 ghost use Rattle.index.specs.Answers.{Stored, Accepted};
-use crate::entries;
 use boundary::Bounds;
-use boundary::Point;
 use geometry::polygon;
 
-// The box around two boxes.
-fn around(a: Bounds, b: Bounds) -> Bounds
-    ensures { λ r. ⌜ r ≡ hull a b ⌝ }
-{
-    Bounds {
-        min: Point {
-            x: boundary::lesser_of(a.min.x, b.min.x),
-            y: boundary::lesser_of(a.min.y, b.min.y),
-        },
-        max: Point {
-            x: boundary::greater_of(a.max.x, b.max.x),
-            y: boundary::greater_of(a.max.y, b.max.y),
-        },
-    }
-}
-
-// The box around the items' boxes, where the items ascend.
-fn hull_of(wide: &[f64], list: &[u32]) -> Bounds
-    requires { ⌜ Sorted leb (now list) ⌝ }
-    ensures { λ r. ⌜ r ≡ hullOf (boxAt (now (wide .entry))) (now (list .entry)) ⌝ }
-{
-    let mut b = polygon::empty_box();
-    let mut i = 0;
-    while i < list.len() {
-        let k = sorts::at(list, i) as usize;
-        b = around(b, entries::box_at(wide, k));
-        i += 1;
-    }
-    b
-}
-
-// The box around the items' boxes, and the box of their centres.
-struct Spans {
-    hull: Bounds,
-    spread: Bounds,
-}
-
-// Both, with item k.
-fn spanned(s: Spans, wide: &[f64], xs: &[f64], ys: &[f64], k: usize) -> Spans
-    requires { ⌜ k ≤ 2 ^ 32 ⌝ }
-    ensures { λ r. ⌜ r ≡ record { hull = hull (s .hull) (boxAt (now (wide .entry)) k); spread = stretched (s .spread) (pointIn (now (xs .entry)) (now (ys .entry)) k) } ⌝ }
-{
-    let hull = s.hull;
-    let spread = s.spread;
-    let c = Point {
-        x: entries::number_at(xs, k),
-        y: entries::number_at(ys, k),
-    };
-    let outer = around(hull, entries::box_at(wide, k));
-    let inner = polygon::stretch(spread, c);
-    Spans {
-        hull: outer,
-        spread: inner,
-    }
-}
-
-// Both, where the items ascend.
-fn spans_of(wide: &[f64], xs: &[f64], ys: &[f64], list: &[u32]) -> Spans
-    requires { ⌜ Sorted leb (now list) ⌝ }
-    ensures { λ r. ⌜ (r .hull ≡ hullOf (boxAt (now (wide .entry))) (now (list .entry)))
-        × (r .spread ≡ spreadOf (pointIn (now (xs .entry)) (now (ys .entry))) (now (list .entry))) ⌝ }
-{
-    let none = polygon::empty_box();
-    let mut s = Spans {
-        hull: none,
-        spread: none,
-    };
-    let mut i = 0;
-    while i < list.len() {
-        let k = sorts::at(list, i) as usize;
-        s = spanned(s, wide, xs, ys, k);
-        i += 1;
-    }
-    s
-}
-
-// The items in ascending order.
-fn ascend(list: &mut [u32], work: &mut [u32])
-    requires { ⌜ length (now list) ≤ length (now work) ⌝ }
-    ensures { λ _. ⌜ now (list .exit) ≡ sort leb (now (list .entry)) ⌝ }
-{
-    let none = [0.0; 0];
-    sorts::sorted(&none, list, work);
-}
-
-// The first m items in the order of the keys, ascending by number, then the others, ascending.
-fn halve_sorted(keys: &[f64], list: &mut [u32], work: &mut [u32], m: usize)
-    requires { ⌜ (m ≤ length (now list)) × (length (now list) ≤ length (now work)) ⌝ }
-    ensures { λ _. ⌜ now (list .exit) ≡ halves (goes (keyIn (now (keys .entry)))) m (now (list .entry)) ⌝ }
-{
-    sorts::sorted(keys, list, work);
-    ascend(&mut list[..m], work);
-    ascend(&mut list[m..], work);
-}
-
-// The same at half the count, where the items ascend by number and the keys lie in lo to hi. A pivot that
-// parts them so is guessed; where it does not, they are sorted.
-fn halve(keys: &[f64], lo: f64, hi: f64, list: &mut [u32], work: &mut [u32])
-    requires { ⌜ Sorted leb (now list) × (length (now list) ≤ length (now work)) ⌝ }
-    ensures { λ _. ⌜ now (list .exit) ≡ halves (goes (keyIn (now (keys .entry)))) (length (now (list .entry)) / 2) (now (list .entry)) ⌝ }
-{
-    let m = list.len() / 2;
-    let p = middle::guess(keys, lo, hi, list, work);
-    let v = p.key;
-    let t = p.number;
-    let k = sorts::parted(keys, v, t, list, work);
-    if k == m {
-        return;
-    }
-    halve_sorted(keys, list, work, m);
-}
-
-// The items split along the axis on which their centres, whose box is b, spread wider.
-fn split(xs: &[f64], ys: &[f64], b: Bounds, list: &mut [u32], work: &mut [u32])
-    requires { ⌜ Sorted leb (now list) × (length (now list) ≤ length (now work)) × (b ≡ spreadOf (pointIn (now xs) (now ys)) (now list)) ⌝ }
-    ensures { λ _. ⌜ now (list .exit) ≡ halves (goes (along (alongY (pointIn (now (xs .entry)) (now (ys .entry))) (now (list .entry))) (pointIn (now (xs .entry)) (now (ys .entry))))) (length (now (list .entry)) / 2) (now (list .entry)) ⌝ }
-{
-    if b.max.x - b.min.x < b.max.y - b.min.y {
-        halve(ys, b.min.y, b.max.y, list, work);
-    } else {
-        halve(xs, b.min.x, b.max.x, list, work);
-    }
-}
-
-// Stores the links of the node n.
-fn put_links(links: &mut [u32], n: usize, first: u32, count: u32)
-    requires { ⌜ n < 2 ^ 32 ⌝ }
-    ensures { λ _. ⌜ now (links .exit) ≡ sets (now (links .entry)) (2 * n) (first ∷ count ∷ []) ⌝ }
-{
-    let k = 2 * n;
-    sorts::put(links, k, first);
-    sorts::put(links, k + 1, count);
-}
-
-// Puts the node of the tree over list, which ascends, and splits it, unless it is a leaf's.
-fn settle(
-    wide: &[f64],
-    xs: &[f64],
-    ys: &[f64],
-    list: &mut [u32],
-    work: &mut [u32],
-    corners: &mut [f64],
-    links: &mut [u32],
-    at: usize,
-    node: usize,
-    next: usize,
-)
-    requires { ⌜ Sorted leb (now list) × Room (length (now list)) (length (now work)) at node next ⌝ }
-    ensures { λ _. ⌜ Settled (treeIn (now (wide .entry)) (now (xs .entry)) (now (ys .entry)) (now (list .entry))) at node next
-        (now (corners .entry)) (now (links .entry)) (now (corners .exit)) (now (links .exit))
-        × (now (list .exit) ≡ arranged (pointIn (now (xs .entry)) (now (ys .entry))) (now (list .entry))) ⌝ }
-{
-    let n = list.len();
-    if n <= 4 {
-        entries::put_box(corners, node, hull_of(wide, list));
-        put_links(links, node, at as u32, n as u32);
-    } else {
-        let b = spans_of(wide, xs, ys, list);
-        let hull = b.hull;
-        let spread = b.spread;
-        entries::put_box(corners, node, hull);
-        put_links(links, node, next as u32, 0);
-        split(xs, ys, spread, list, work);
-    }
-}
-
-// The tree over the items of list, which ascend, and end in the order of their leaves: its node is `node`, those below
-// are numbered from `next` on, and its items begin at `at`. Gives the first number not used.
-fn build(
-    wide: &[f64],
-    xs: &[f64],
-    ys: &[f64],
-    list: &mut [u32],
-    work: &mut [u32],
-    corners: &mut [f64],
-    links: &mut [u32],
-    at: usize,
-    node: usize,
-    next: usize,
-) -> usize
-    requires { ⌜ Sorted leb (now list) × Room (length (now list)) (length (now work)) at node next ⌝ }
-    ensures { λ r. ⌜ Grown (treeIn (now (wide .entry)) (now (xs .entry)) (now (ys .entry)) (now (list .entry))) at node next
-        (now (corners .entry)) (now (links .entry)) r (now (list .exit)) (now (corners .exit)) (now (links .exit)) ⌝ }
-{
-    let n = list.len();
-    settle(wide, xs, ys, list, work, corners, links, at, node, next);
-    if n <= 4 {
-        return next;
-    }
-    let m = n / 2;
-    let free = build(
-        wide,
-        xs,
-        ys,
-        &mut list[..m],
-        work,
-        corners,
-        links,
-        at,
-        next,
-        next + 2,
-    );
-    build(
-        wide,
-        xs,
-        ys,
-        &mut list[m..],
-        work,
-        corners,
-        links,
-        at + m,
-        next + 1,
-        free,
-    )
-}
-
-// The same over all boxes, with lent space for what the build reads.
+// The tree over all boxes, built with lent space for what the build reads.
 fn grow_in(
     boxes: &[f64],
     wide: &mut [f64],
@@ -257,7 +32,7 @@ fn grow_in(
     let w = &wide[..];
     let x = &xs[..];
     let y = &ys[..];
-    build(
+    nodes::build(
         &w[0..k],
         &x[0..n],
         &y[0..n],
@@ -280,7 +55,7 @@ fn hull_wide(boxes: &[f64]) -> Bounds
     let mut b = polygon::empty_box();
     let mut i = 0;
     while i < n {
-        b = around(b, entries::widened(entries::box_at(boxes, i)));
+        b = splits::around(b, entries::widened(entries::box_at(boxes, i)));
         i += 1;
     }
     b
@@ -294,7 +69,7 @@ fn grow_leaf(boxes: &[f64], corners: &mut [f64], links: &mut [u32], items: &mut 
 {
     let n = boxes.len() / 4;
     entries::put_box(corners, 0, hull_wide(boxes));
-    put_links(links, 0, 0, n as u32);
+    nodes::put_links(links, 0, 0, n as u32);
     entries::count_up(&mut items[..n]);
     1
 }
@@ -381,4 +156,21 @@ pub fn grow(boxes: &[f64], corners: &mut [f64], links: &mut [u32], items: &mut [
         return grow_some(boxes, corners, links, items);
     }
     grow_many(boxes, corners, links, items)
+}
+
+// The same, where a single leaf is put without the stack that `grow` takes for all its space.
+pub fn grow_or_leaf(
+    boxes: &[f64],
+    corners: &mut [f64],
+    links: &mut [u32],
+    items: &mut [u32],
+) -> usize
+    requires { ⌜ Accepted (now boxes) (length (now corners)) (length (now links)) (length (now items)) ⌝ }
+    ensures { λ r. ⌜ Stored (indexOf (now (boxes .entry))) (now (corners .entry)) (now (links .entry)) (now (items .entry))
+        r (now (corners .exit)) (now (links .exit)) (now (items .exit)) ⌝ }
+{
+    if boxes.len() / 4 <= 4 {
+        return grow_leaf(boxes, corners, links, items);
+    }
+    grow(boxes, corners, links, items)
 }

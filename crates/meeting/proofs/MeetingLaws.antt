@@ -1,7 +1,7 @@
 -- The walk of the buffer lists what `meeting` says: leaf boxes alone decide, and no item is listed twice as far as there is room. Assumes nothing.
 use mathlib.Core.Path.{_≡_, refl, sym, ap, _∙_, subst}
 use mathlib.Core.Bool.{Bool, true, false, cond, _||_}
-use mathlib.Core.List.{List, [], _∷_, _++_}
+use mathlib.Core.List.{List, [], _∷_, _++_, flatMap}
 use Prim.Native.Nat.{ℕ, zero, suc, _+_, _-_, _≤_, _<_}
 use native.Mathlib.Omega.{arith}
 use lib.Dec.{T, eqb, ltb}
@@ -14,14 +14,16 @@ use lib.Ieee.Bits.{is-true}
 use Rattle.number.proofs.OrderLaws.{below-through, through-below}
 use Rattle.boundary.specs.declared.Bounds.{Bounds}
 use Rattle.boundary.specs.Boxes.{Around}
-use Rattle.geometry.specs.Lists.{atFront, zeros}
-use Rattle.index.specs.declared.Test.the-variants.{Passed}
-use Rattle.index.specs.Entries.{boxAt, flat}
-use Rattle.index.specs.Tree.{Tree, leaf, inner, indexOf, itemsOf}
-use Rattle.index.specs.Layout.{extra, nodeOf, nodesOf, cornersOf, linksOf}
-use Rattle.index.specs.Answers.{boxesTested, cellTested, shortIndex, Stored, Accepted}
-use Rattle.index.proofs.StoreLaws.{length-run, sets-front, flat-length}
-use Rattle.index.proofs.GrowLaws.{length-index-items, index-nodes, or-none, room-passed, cell-passed, accepted-of}
+use Rattle.accept.specs.Lists.{atFront, zeros}
+use Rattle.accept.specs.declared.Test.the-variants.{Passed}
+use Rattle.accept.specs.Refusals.{cellTested}
+use Rattle.accept.proofs.TestLaws.{room-passed, cell-passed}
+use Rattle.entries.specs.Entries.{boxAt}
+use Rattle.splits.specs.Tree.{Tree, leaf, inner, indexOf, itemsOf}
+use Rattle.nodes.specs.Layout.{extra, nodeOf, nodesOf, cornersOf, linksOf}
+use Rattle.index.specs.Answers.{boxesTested, shortIndex, Stored, Accepted}
+use Rattle.entries.proofs.StoreLaws.{sets-front, flat-length}
+use Rattle.index.proofs.GrowLaws.{length-index-items, index-nodes, or-none, accepted-of}
 use Rattle.index.proofs.ReadLaws.{Holds, holds-first, holds-second, stored-holds, Deep}
 use Rattle.index.proofs.Theorems.{rootBox, Nested, nested, index-deep}
 use Rattle.meeting.specs.Meeting.{apart, meetingOf, visitedOf}
@@ -145,15 +147,15 @@ front-front zs xs s h l =
 
 module _ (v : List Float) (c : Bounds) (passed : boxesTested v ≡ Passed) (C : List Float) (L is : List ℕ) where
   -- the walk finds what `meeting` says
-  pub found-is : found (length v) (atFront (flat cornersOf (nodesOf (indexOf v))) C) (atFront (flat linksOf (nodesOf (indexOf v))) L) (atFront (itemsOf (indexOf v)) is) c ≡ meetingOf c (indexOf v)
+  pub found-is : found (length v) (atFront (flatMap cornersOf (nodesOf (indexOf v))) C) (atFront (flatMap linksOf (nodesOf (indexOf v))) L) (atFront (itemsOf (indexOf v)) is) c ≡ meetingOf c (indexOf v)
   unfolding found
   found-is = go (eqb (length v) 0) refl
     where
       B : List Float
-      B = atFront (flat cornersOf (nodesOf (indexOf v))) C
+      B = atFront (flatMap cornersOf (nodesOf (indexOf v))) C
 
       K : List ℕ
-      K = atFront (flat linksOf (nodesOf (indexOf v))) L
+      K = atFront (flatMap linksOf (nodesOf (indexOf v))) L
 
       I : List ℕ
       I = atFront (itemsOf (indexOf v)) is
@@ -190,8 +192,8 @@ module _ (v : List Float) (c : Bounds) (passed : boxesTested v ≡ Passed) (C : 
       record {
         count = omega arith;
         list = q .list ∙ sets-front S (meetingOf c t) (omega arith);
-        corners = eC ∙ rw (s .corners) (front-front (zeros zeroᶠ 2044) (flat cornersOf (nodesOf t)) C (omega arith) (omega arith));
-        links = eL ∙ rw (s .links) (front-front (zeros 0 1022) (flat linksOf (nodesOf t)) L (omega arith) (omega arith));
+        corners = eC ∙ rw (s .corners) (front-front (zeros zeroᶠ 2044) (flatMap cornersOf (nodesOf t)) C (omega arith) (omega arith));
+        links = eL ∙ rw (s .links) (front-front (zeros 0 1022) (flatMap linksOf (nodesOf t)) L (omega arith) (omega arith));
         items = ei ∙ rw (s .items) (front-front (zeros 0 1024) (itemsOf t) is (omega arith) (omega arith));
       }
 

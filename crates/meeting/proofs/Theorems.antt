@@ -11,9 +11,9 @@ use Rattle.boundary.specs.Boxes.{Around, FieldBox}
 use Rattle.boundary.proofs.BoxLaws.{widened-around}
 use Rattle.sorts.specs.Sort.{times, In}
 use Rattle.sorts.proofs.SortLaws.{times-append}
-use Rattle.index.specs.declared.Test.the-variants.{Passed}
-use Rattle.index.specs.Entries.{boxCount, boxAt, wideAt}
-use Rattle.index.specs.Tree.{Tree, leaf, inner, indexOf, itemsOf, EachNode}
+use Rattle.accept.specs.declared.Test.the-variants.{Passed}
+use Rattle.entries.specs.Entries.{boxCount, boxAt, wideAt}
+use Rattle.splits.specs.Tree.{Tree, leaf, inner, indexOf, itemsOf, EachNode}
 use Rattle.index.specs.Answers.{boxesTested}
 use Rattle.index.proofs.Theorems.{items-once, node-boxes}
 use Rattle.meeting.specs.Meeting.{apart, meetingOf}

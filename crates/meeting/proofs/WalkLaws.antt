@@ -13,9 +13,9 @@ use borrow.Author.Tests.{lt-ltb, le-ltb}
 use Rattle.boundary.specs.declared.Bounds.{Bounds}
 use Rattle.boundary.specs.Folds.{run}
 use Rattle.boundary.proofs.RunLaws.{run-last}
-use Rattle.index.specs.Entries.{boxAt}
-use Rattle.index.specs.Layout.{itemAt, firstAt, countAt}
-use Rattle.index.proofs.StoreLaws.{length-run, sets-append, sets-front, sets-more}
+use Rattle.entries.specs.Entries.{boxAt}
+use Rattle.nodes.specs.Layout.{itemAt, firstAt, countAt}
+use Rattle.entries.proofs.StoreLaws.{length-run, sets-append, sets-front, sets-more}
 use Rattle.meeting.specs.Meeting.{apart}
 use Rattle.meeting.specs.Walk.{hits, Put}
 

@@ -9,8 +9,8 @@ use lib.Seq.{sets}
 use lib.Ieee.{Float}
 use Rattle.boundary.specs.declared.Bounds.{Bounds}
 use Rattle.boundary.specs.Folds.{run}
-use Rattle.index.specs.Entries.{boxAt}
-use Rattle.index.specs.Layout.{itemAt, firstAt, countAt}
+use Rattle.entries.specs.Entries.{boxAt}
+use Rattle.nodes.specs.Layout.{itemAt, firstAt, countAt}
 use Rattle.meeting.specs.Meeting.{apart}
 
 -- what the walk lists below node n, d levels at most

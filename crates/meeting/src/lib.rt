@@ -2,23 +2,21 @@
 ghost use mathlib.Core.Path.{_≡_};
 ghost use Prim.Native.Nat.{_+_, _≤_, _<_, _^_, min};
 ghost use lib.ListN.{length, set};
-ghost use Rattle.number.specs.Exact.{zeroᶠ};
 ghost use Rattle.boundary.specs.Folds.{run};
-ghost use Rattle.geometry.specs.Lists.{zeros};
-ghost use Rattle.index.specs.declared.Test.the-variants.{Passed};
-ghost use Rattle.index.specs.Entries.{boxAt};
-ghost use Rattle.index.specs.Layout.{itemAt};
-ghost use Rattle.index.specs.Tree.{indexOf};
-ghost use Rattle.index.specs.Answers.{boxesTested, writtenFor, Accepted};
-ghost use Rattle.meeting.specs.Meeting.{apart, meetingOf};
+ghost use Rattle.accept.specs.declared.Test.the-variants.{Passed};
+ghost use Rattle.entries.specs.Entries.{boxAt};
+ghost use Rattle.nodes.specs.Layout.{itemAt};
+ghost use Rattle.index.specs.Answers.{boxesTested, Accepted};
+ghost use Rattle.meeting.specs.Meeting.{apart};
 ghost use Rattle.meeting.specs.Walk.{hits, found, Put};
-ghost use Rattle.meeting.specs.Answers.{meetingTested, meetingAnswer, Listed};
+ghost use Rattle.meeting.specs.Answers.{meetingTested, meetingAnswer, meetingCorners, meetingLinks, meetingItems, meetingList, Listed};
+use accept::Answer;
+use accept::Test;
+use accept::lists;
+use accept::refusals;
 use boundary::Bounds;
-use geometry::Answer;
-use geometry::lists;
-use index::Test;
-use index::entries;
-use index::refusals;
+use index::refusals::boxes_tested;
+use index::refusals::short_index;
 
 // Stores x at k, where there is room, and gives the next place.
 fn push(list: &mut [u32], k: usize, x: u32) -> usize
@@ -113,7 +111,7 @@ pub fn listed(
     ensures { λ r. ⌜ Listed (now (boxes .entry)) c (now (corners .entry)) (now (links .entry)) (now (items .entry)) (now (list .entry))
         r (now (corners .exit)) (now (links .exit)) (now (items .exit)) (now (list .exit)) ⌝ }
 {
-    index::tree::grow(boxes, corners, links, items);
+    index::tree::grow_or_leaf(boxes, corners, links, items);
     let count = walk(boxes.len(), corners, links, items, c, list);
     lists::clear_numbers(corners, 2044);
     lists::clear_counts(links, 1022);
@@ -125,11 +123,8 @@ pub fn listed(
 fn tested(boxes: &[f64], c: Bounds, corners: usize, links: usize, items: usize, list: usize) -> Test
     ensures { λ r. ⌜ r ≡ meetingTested (now (boxes .entry)) c corners links items list ⌝ }
 {
-    let t = refusals::cell_tested(c, refusals::boxes_tested(boxes));
-    refusals::room_tested(
-        refusals::short_index(corners, links, items) | (list < 1024),
-        t,
-    )
+    let t = refusals::cell_tested(c, boxes_tested(boxes));
+    refusals::room_tested(short_index(corners, links, items) | (list < 1024), t)
 }
 
 // The items of each leaf of the boxes' index whose box shares a point with the cell.
@@ -141,11 +136,11 @@ pub fn meeting(
     items: &mut [u32],
     list: &mut [u32],
 ) -> Answer
-    ensures { λ r. ⌜ (r ≡ meetingAnswer (now (boxes .entry)) c (length (now (corners .entry))) (length (now (links .entry))) (length (now (items .entry))) (length (now (list .entry))))
-        × (now (corners .exit) ≡ writtenFor (zeros zeroᶠ 2044) (now (corners .entry)) (meetingTested (now (boxes .entry)) c (length (now (corners .entry))) (length (now (links .entry))) (length (now (items .entry))) (length (now (list .entry)))))
-        × (now (links .exit) ≡ writtenFor (zeros 0 1022) (now (links .entry)) (meetingTested (now (boxes .entry)) c (length (now (corners .entry))) (length (now (links .entry))) (length (now (items .entry))) (length (now (list .entry)))))
-        × (now (items .exit) ≡ writtenFor (zeros 0 1024) (now (items .entry)) (meetingTested (now (boxes .entry)) c (length (now (corners .entry))) (length (now (links .entry))) (length (now (items .entry))) (length (now (list .entry)))))
-        × (now (list .exit) ≡ writtenFor (meetingOf c (indexOf (now (boxes .entry)))) (now (list .entry)) (meetingTested (now (boxes .entry)) c (length (now (corners .entry))) (length (now (links .entry))) (length (now (items .entry))) (length (now (list .entry))))) ⌝ }
+    ensures { λ r. ⌜ (r ≡ meetingAnswer (now (boxes .entry)) c (now (corners .entry)) (now (links .entry)) (now (items .entry)) (now (list .entry)))
+        × (now (corners .exit) ≡ meetingCorners (now (boxes .entry)) c (now (corners .entry)) (now (links .entry)) (now (items .entry)) (now (list .entry)))
+        × (now (links .exit) ≡ meetingLinks (now (boxes .entry)) c (now (corners .entry)) (now (links .entry)) (now (items .entry)) (now (list .entry)))
+        × (now (items .exit) ≡ meetingItems (now (boxes .entry)) c (now (corners .entry)) (now (links .entry)) (now (items .entry)) (now (list .entry)))
+        × (now (list .exit) ≡ meetingList (now (boxes .entry)) c (now (corners .entry)) (now (links .entry)) (now (items .entry)) (now (list .entry))) ⌝ }
 {
     let t = tested(
         boxes,

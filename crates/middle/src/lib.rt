@@ -51,10 +51,10 @@ fn parted_in(keys: &[f64], v: f64, part: &mut [u32]) -> usize
     let mut i: usize = 0;
     while i < part.len() {
         let x = sorts::at(part, i);
-        let y = sorts::at(part, a);
+        let y = part[a];
         let c = bit(key_of(keys, x) < v);
-        sorts::put(part, i, y);
-        sorts::put(part, a, x);
+        part[i] = y;
+        part[a] = x;
         a += c;
         i += 1;
     }
@@ -83,21 +83,111 @@ fn below(keys: &[f64], v: f64, part: &[u32]) -> usize {
     a
 }
 
-// The largest key that has at most r others below it.
-fn ranked(keys: &[f64], part: &[u32], r: usize) -> f64 {
-    let mut best = -1.0 / 0.0;
-    let mut i: usize = 0;
-    while i < part.len() {
-        let v = key_of(keys, sorts::at(part, i));
-        best = number::signs::pick((below(keys, v, part) <= r) & (best < v), v, best);
-        i += 1;
-    }
-    best
+// Four keys.
+struct Four {
+    a: f64,
+    b: f64,
+    c: f64,
+    d: f64,
 }
 
-// The item of rank r of a few.
-fn of_rank(keys: &[f64], part: &[u32], r: usize) -> Found {
-    let v = ranked(keys, part, r);
+fn low(x: f64, y: f64) -> f64 {
+    number::signs::pick(y < x, y, x)
+}
+
+fn high(x: f64, y: f64) -> f64 {
+    number::signs::pick(x < y, y, x)
+}
+
+// The lesser ones of those that stand two apart, then the greater ones.
+fn crossed(s: Four) -> Four {
+    Four {
+        a: low(s.a, s.c),
+        b: low(s.b, s.d),
+        c: high(s.a, s.c),
+        d: high(s.b, s.d),
+    }
+}
+
+// Both pairs in order.
+fn paired(s: Four) -> Four {
+    Four {
+        a: low(s.a, s.b),
+        b: high(s.a, s.b),
+        c: low(s.c, s.d),
+        d: high(s.c, s.d),
+    }
+}
+
+// Four keys that rise and then fall, or fall and then rise, in order.
+fn straight(s: Four) -> Four {
+    paired(crossed(s))
+}
+
+// Four keys in order.
+fn ordered(s: Four) -> Four {
+    straight(Four {
+        a: low(s.a, s.b),
+        b: high(s.a, s.b),
+        c: high(s.c, s.d),
+        d: low(s.c, s.d),
+    })
+}
+
+// The four lesser keys of two fours in order: they rise and then fall.
+fn lower(s: Four, t: Four) -> Four {
+    Four {
+        a: low(s.a, t.d),
+        b: low(s.b, t.c),
+        c: low(s.c, t.b),
+        d: low(s.d, t.a),
+    }
+}
+
+// The four greater ones: they fall and then rise.
+fn upper(s: Four, t: Four) -> Four {
+    Four {
+        a: high(s.a, t.d),
+        b: high(s.b, t.c),
+        c: high(s.c, t.b),
+        d: high(s.d, t.a),
+    }
+}
+
+fn least(s: Four) -> f64 {
+    low(low(s.a, s.b), low(s.c, s.d))
+}
+
+fn most(s: Four) -> f64 {
+    high(high(s.a, s.b), high(s.c, s.d))
+}
+
+// The key of the item at i of part, `none` past the end.
+fn key_or(keys: &[f64], part: &[u32], i: usize, none: f64) -> f64 {
+    if i < part.len() {
+        key_of(keys, sorts::at(part, i))
+    } else {
+        none
+    }
+}
+
+// The keys of four items of part, from i on, in order.
+fn four_from(keys: &[f64], part: &[u32], i: usize, none: f64) -> Four
+    requires { ⌜ i ≤ 4 ⌝ }
+{
+    ordered(Four {
+        a: key_or(keys, part, i, none),
+        b: key_or(keys, part, i + 1, none),
+        c: key_or(keys, part, i + 2, none),
+        d: key_or(keys, part, i + 3, none),
+    })
+}
+
+// The item of rank r, which has the key v, where the greatest key before it is g.
+fn with_ties(keys: &[f64], part: &[u32], r: usize, v: f64, g: f64) -> Found {
+    if g < v {
+        return Found { key: v, ties: 0 };
+    }
     let c = below(keys, v, part);
     if c < r {
         return Found {
@@ -106,6 +196,37 @@ fn of_rank(keys: &[f64], part: &[u32], r: usize) -> Found {
         };
     }
     Found { key: v, ties: 0 }
+}
+
+// The item of rank r, where at most 4 go before it, and at most 4 from it on. Filled up to eight by keys below all
+// and above all, it is the least of the greater four.
+fn of_eight(keys: &[f64], part: &[u32], r: usize) -> Found
+    requires { ⌜ r ≤ length (now part) ⌝ }
+{
+    let n = part.len();
+    let top = 1.0 / 0.0;
+    let s = four_from(keys, &part[0..r], 0, -top);
+    let t = four_from(keys, &part[r..n], 0, top);
+    with_ties(keys, part, r, least(upper(s, t)), most(lower(s, t)))
+}
+
+// The same with 8 for 4: a and c are the first eight in order, and d and b the second.
+fn of_sixteen(keys: &[f64], part: &[u32], r: usize) -> Found
+    requires { ⌜ r ≤ length (now part) ⌝ }
+{
+    let n = part.len();
+    let top = 1.0 / 0.0;
+    let w = four_from(keys, &part[0..r], 0, -top);
+    let x = four_from(keys, &part[0..r], 4, -top);
+    let y = four_from(keys, &part[r..n], 0, top);
+    let z = four_from(keys, &part[r..n], 4, top);
+    let a = straight(lower(w, x));
+    let b = straight(upper(y, z));
+    let c = straight(upper(w, x));
+    let d = straight(lower(y, z));
+    let v = low(least(upper(a, b)), least(upper(c, d)));
+    let g = high(most(lower(a, b)), most(lower(c, d)));
+    with_ties(keys, part, r, v, g)
 }
 
 // n as a float; 1 where it is too large to be one.
@@ -127,10 +248,40 @@ fn tried(keys: &[f64], l: f64, h: f64, part: &[u32], r: usize, own: bool) -> f64
     between(l, h, r, n)
 }
 
+// Whether the item of rank r of n has at most 8 before it, and at most 8 from it on.
+fn few(n: usize, r: usize) -> bool {
+    if r <= 8 { n <= r + 8 } else { false }
+}
+
+// The item of rank r of few.
+fn of_few(keys: &[f64], part: &[u32], r: usize) -> Found {
+    let n = part.len();
+    if n <= r {
+        return Found { key: 0.0, ties: 0 };
+    }
+    if (r <= 4) & (n - r <= 4) {
+        return of_eight(keys, part, r);
+    }
+    of_sixteen(keys, part, r)
+}
+
+// Whether the item of rank r has the key v, below which there are k keys of part. Where v is no item's own key, only
+// its place between two items counts.
+fn reached(keys: &[f64], v: f64, part: &[u32], k: usize, r: usize, own: bool) -> bool {
+    if r <= k {
+        return r == k;
+    }
+    if own {
+        r - k < same(keys, v, part)
+    } else {
+        false
+    }
+}
+
 // The item of rank r of those in part, whose keys lie in l to h, in so many rounds at most.
 fn seek(keys: &[f64], l: f64, h: f64, part: &mut [u32], r: usize, rounds: usize) -> Found {
-    if part.len() <= 6 {
-        return of_rank(keys, part, r);
+    if few(part.len(), r) {
+        return of_few(keys, part, r);
     }
     if rounds < 1 {
         return Found { key: l, ties: 0 };
@@ -141,7 +292,7 @@ fn seek(keys: &[f64], l: f64, h: f64, part: &mut [u32], r: usize, rounds: usize)
     if r < k {
         return seek(keys, l, v, &mut part[..k], r, rounds - 1);
     }
-    if (k == r) | (own & (r - k < same(keys, v, part))) {
+    if reached(keys, v, part, k, r, own) {
         return Found {
             key: v,
             ties: r - k,
@@ -156,9 +307,6 @@ fn middle(keys: &[f64], l: f64, h: f64, list: &[u32], work: &mut [u32]) -> Found
 {
     let n = list.len();
     let m = n / 2;
-    if n <= 6 {
-        return of_rank(keys, list, m);
-    }
     let v = 0.5 * (l + h);
     let k = parted_out(keys, v, list, work);
     if m < k {
@@ -178,6 +326,7 @@ struct Near {
 
 // Puts the items with keys from l to h at the front of work.
 fn window(keys: &[f64], l: f64, h: f64, list: &[u32], work: &mut [u32]) -> Near
+    requires { ⌜ length (now list) ≤ length (now work) ⌝ }
     ensures { λ r. ⌜ r .inside ≤ length (now (list .entry)) ⌝ }
 {
     let mut a: usize = 0;
@@ -186,7 +335,7 @@ fn window(keys: &[f64], l: f64, h: f64, list: &[u32], work: &mut [u32]) -> Near
     while i < list.len() {
         let x = sorts::at(list, i);
         let k = key_of(keys, x);
-        sorts::put(work, c, x);
+        work[c] = x;
         a += bit(k < l);
         c += bit((l <= k) & (k < h));
         i += 1;
@@ -199,7 +348,7 @@ fn window(keys: &[f64], l: f64, h: f64, list: &[u32], work: &mut [u32]) -> Near
 
 // How far from the middle of the keys' range the middle item is looked for first, in parts of the range.
 fn margin(n: usize) -> f64 {
-    number::signs::pick(n <= 256, 0.1, 0.05)
+    number::signs::pick(n <= 32, 0.2, number::signs::pick(n <= 256, 0.1, 0.05))
 }
 
 // The item in the middle of many: first near the middle of the keys' range.
@@ -224,8 +373,8 @@ fn middle_of_many(keys: &[f64], l: f64, h: f64, list: &[u32], work: &mut [u32]) 
 fn middle_item(keys: &[f64], l: f64, h: f64, list: &[u32], work: &mut [u32]) -> Found
     requires { ⌜ length (now list) ≤ length (now work) ⌝ }
 {
-    if list.len() <= 64 {
-        return middle(keys, l, h, list, work);
+    if list.len() <= 16 {
+        return of_few(keys, list, list.len() / 2);
     }
     middle_of_many(keys, l, h, list, work)
 }

@@ -1,18 +1,17 @@
 -- What the nearest query has and leaves: the buffers hold the index of the set's boxes, and zeros when it is done. Assumes nothing.
 use mathlib.Core.Path.{_≡_, refl, _∙_}
-use mathlib.Core.List.{List}
+use mathlib.Core.List.{List, flatMap}
 use Prim.Native.Nat.{ℕ, _-_, _*_, _≤_}
 use native.Mathlib.Omega.{arith}
 use lib.ListN.{length, take, drop, length-replicate}
 use lib.Seq.{sets}
 use lib.Ieee.{Float}
 use Rattle.number.specs.Exact.{zeroᶠ}
-use Rattle.geometry.specs.Lists.{zeros}
-use Rattle.index.specs.Entries.{flat}
-use Rattle.index.specs.Tree.{Tree, indexOf, itemsOf}
-use Rattle.index.specs.Layout.{nodesOf, cornersOf, linksOf}
+use Rattle.accept.specs.Lists.{zeros}
+use Rattle.splits.specs.Tree.{Tree, indexOf, itemsOf}
+use Rattle.nodes.specs.Layout.{nodesOf, cornersOf, linksOf}
 use Rattle.index.specs.Answers.{Stored}
-use Rattle.index.proofs.StoreLaws.{flat-length}
+use Rattle.entries.proofs.StoreLaws.{flat-length}
 use Rattle.index.proofs.GrowLaws.{front-of, length-index-items, index-nodes}
 use Rattle.meeting.proofs.MeetingLaws.{front-front}
 use Rattle.set.specs.Set.{setBoxes}
@@ -52,7 +51,7 @@ module _ (v : List Float) (cs : List ℕ) (C : List Float) (L I : List ℕ) (rea
         let aL = ready .links in
         let ai = ready .items in
         record {
-          corners = z .corners ∙ rw (s .corners) (front-front (zeros zeroᶠ 2044) (flat cornersOf (nodesOf t)) C (omega arith) (omega arith));
-          links = z .links ∙ rw (s .links) (front-front (zeros 0 1022) (flat linksOf (nodesOf t)) L (omega arith) (omega arith));
+          corners = z .corners ∙ rw (s .corners) (front-front (zeros zeroᶠ 2044) (flatMap cornersOf (nodesOf t)) C (omega arith) (omega arith));
+          links = z .links ∙ rw (s .links) (front-front (zeros 0 1022) (flatMap linksOf (nodesOf t)) L (omega arith) (omega arith));
           items = z .items ∙ rw (s .items) (front-front (zeros 0 1024) (itemsOf t) I (omega arith) (omega arith));
         }

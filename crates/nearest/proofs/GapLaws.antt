@@ -21,11 +21,11 @@ use Rattle.boundary.proofs.BoxLaws.{widened-box-finite}
 use Rattle.geometry.specs.Polygon.{nowhere}
 use Rattle.sorts.specs.Sort.{sort, In}
 use Rattle.sorts.proofs.SortLaws.{length-sort, times-append, times-sort}
-use Rattle.index.specs.Entries.{boxCount, wideAt, centreOf}
-use Rattle.index.specs.Tree.{Tree, leaf, inner, hull, hullOf, treeOf, indexOf, itemsOf, EachNode}
+use Rattle.entries.specs.Entries.{boxCount, wideAt, centreOf}
+use Rattle.splits.specs.Tree.{Tree, leaf, inner, hull, hullOf, treeOf, indexOf, itemsOf, EachNode}
 use Rattle.index.proofs.HullLaws.{Number, in-first, in-rest}
-use Rattle.index.proofs.StoreLaws.{length-run}
-use Rattle.index.proofs.TreeLaws.{left, right, length-left, length-right, times-halves, tree-induct}
+use Rattle.entries.proofs.StoreLaws.{length-run}
+use Rattle.nodes.proofs.TreeLaws.{left, right, length-left, length-right, times-halves, tree-induct}
 use Rattle.index.proofs.Theorems.{items-times, items-once, node-boxes}
 use Rattle.set.specs.Set.{outlineAt, setBoxes, Fit}
 use Rattle.set.proofs.SetLaws.{outline-some, outline-each, setBox, boxes-length, box-at-set, boxes-tested, set-box-field}

@@ -10,9 +10,9 @@ use lib.Ieee.{Float}
 use Rattle.boundary.specs.declared.Point.{Point}
 use Rattle.boundary.specs.Boxes.{inField, pointInField, FieldPoint}
 use Rattle.boundary.specs.Folds.{run, fold, any}
-use Rattle.boundary.specs.Nearest.{nearestOf}
+use Rattle.distance.specs.Nearest.{nearestOf}
 use Rattle.boundary.specs.Outline.{count, edges}
-use Rattle.index.specs.Layout.{itemAt}
+use Rattle.nodes.specs.Layout.{itemAt}
 use Rattle.index.proofs.HullLaws.{in-first, in-rest}
 use Rattle.set.specs.Set.{startOf, outlineAt}
 use Rattle.set.proofs.SetLaws.{outline-within, outline-some, outline-in-field}

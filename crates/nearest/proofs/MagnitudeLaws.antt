@@ -29,13 +29,13 @@ use Rattle.boundary.specs.declared.Bounds.{Bounds}
 use Rattle.boundary.specs.Boxes.{PointOf, FieldValue, FieldPoint, FieldEdge, FieldBox, FiniteBox, Inside, Around, widenedOf, gapOf}
 use Rattle.boundary.specs.Folds.{run, fold}
 use Rattle.boundary.specs.Line.{footOf, lineNear}
-use Rattle.boundary.specs.Nearest.{nearer, farAway, nearestOf, roundingOf, flipped, awayAlong, signedOf}
+use Rattle.distance.specs.Nearest.{nearer, farAway, nearestOf, roundingOf, flipped, awayAlong, signedOf}
 use Rattle.boundary.specs.Outline.{count, after, vertexAt, edgeAt, vertices, edges}
-use Rattle.boundary.specs.Piece.{pieceNear}
+use Rattle.pieces.specs.Piece.{pieceNear}
 use Rattle.boundary.proofs.AlongLaws.{ends-between, one-of}
 use Rattle.boundary.proofs.BoxLaws.{around-inside, gap-around}
 use Rattle.boundary.proofs.FieldLaws.{field-not-nan}
-use Rattle.boundary.proofs.SearchLaws.{foot-near, near-finite, step}
+use Rattle.distance.proofs.SearchLaws.{foot-near, near-finite, step}
 use Rattle.geometry.specs.Polygon.{nowhere, stretched, boundsOf, containsOf}
 use Rattle.index.proofs.HullLaws.{Number, NumberBox, around-self, around-through}
 use Rattle.nearest.specs.Nearest.{magnitudeOf}

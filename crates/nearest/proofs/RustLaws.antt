@@ -19,8 +19,8 @@ use Rattle.boundary.specs.Folds.{fold}
 use Rattle.sorts.specs.Keys.{totalLess}
 use Rattle.sorts.specs.Sort.{times, In}
 use Rattle.sorts.proofs.SortLaws.{times-append}
-use Rattle.index.specs.Tree.{Tree, leaf, inner, indexOf, itemsOf, EachNode}
-use Rattle.index.specs.Layout.{extra}
+use Rattle.splits.specs.Tree.{Tree, leaf, inner, indexOf, itemsOf, EachNode}
+use Rattle.nodes.specs.Layout.{extra}
 use Rattle.index.proofs.HullLaws.{Number, in-cons, in-first, in-rest}
 use Rattle.index.proofs.Theorems.{items-once}
 use Rattle.set.specs.Set.{setBoxes, Fit}

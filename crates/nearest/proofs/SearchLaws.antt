@@ -16,9 +16,9 @@ use Rattle.sorts.proofs.SortLaws.{times-append}
 use Rattle.heap.specs.declared.Entry.{Entry}
 use Rattle.heap.specs.Heap.{Heaped, total, Pushed, Popped}
 use Rattle.heap.proofs.HeapLaws.{all-kept, all-left, popped-gap}
-use Rattle.index.specs.Entries.{boxAt}
-use Rattle.index.specs.Tree.{itemsOf}
-use Rattle.index.specs.Layout.{extra, itemAt, firstAt, countAt}
+use Rattle.entries.specs.Entries.{boxAt}
+use Rattle.splits.specs.Tree.{itemsOf}
+use Rattle.nodes.specs.Layout.{extra, itemAt, firstAt, countAt}
 use Rattle.index.proofs.HullLaws.{Number}
 use Rattle.nearest.specs.declared.Best.{Best}
 use Rattle.nearest.specs.Walk.{bestOf, entryFor, Opened}

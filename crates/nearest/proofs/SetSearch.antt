@@ -15,10 +15,10 @@ use Rattle.boundary.specs.declared.Bounds.{Bounds}
 use Rattle.boundary.specs.Boxes.{FieldPoint, gapAlong, gapOf}
 use Rattle.heap.specs.declared.Entry.{Entry}
 use Rattle.heap.specs.Heap.{Pushed}
-use Rattle.index.specs.Tree.{Tree, indexOf}
-use Rattle.index.specs.Layout.{extra, nodesOf}
+use Rattle.splits.specs.Tree.{Tree, indexOf}
+use Rattle.nodes.specs.Layout.{extra, nodesOf}
 use Rattle.index.proofs.HullLaws.{Number}
-use Rattle.index.proofs.LayoutLaws.{length-below}
+use Rattle.nodes.proofs.LayoutLaws.{length-below}
 use Rattle.index.proofs.ReadLaws.{Holds, stored-holds}
 use Rattle.index.proofs.Theorems.{items-once, nodes-511, index-deep}
 use Rattle.set.specs.Set.{setBoxes}

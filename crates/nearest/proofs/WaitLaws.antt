@@ -13,9 +13,9 @@ use Rattle.boundary.specs.declared.Bounds.{Bounds}
 use Rattle.boundary.specs.Boxes.{gapOf}
 use Rattle.boundary.specs.Folds.{run}
 use Rattle.heap.specs.declared.Entry.{Entry}
-use Rattle.index.specs.Entries.{boxAt}
-use Rattle.index.specs.Tree.{Tree, leaf, inner, itemsOf, EachNode}
-use Rattle.index.specs.Layout.{extra, nodeOf, itemAt, firstAt, countAt}
+use Rattle.entries.specs.Entries.{boxAt}
+use Rattle.splits.specs.Tree.{Tree, leaf, inner, itemsOf, EachNode}
+use Rattle.nodes.specs.Layout.{extra, nodeOf, itemAt, firstAt, countAt}
 use Rattle.index.proofs.ReadLaws.{Holds, holds-first, holds-second, Deep}
 use Rattle.index.proofs.Theorems.{rootBox}
 use Rattle.nearest.specs.Walk.{entryFor}

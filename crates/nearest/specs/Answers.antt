@@ -5,9 +5,9 @@ use Prim.Native.Nat.{ℕ}
 use lib.Ieee.{Float}
 use Rattle.number.specs.Exact.{zeroᶠ}
 use Rattle.boundary.specs.declared.Point.{Point}
-use Rattle.geometry.specs.Lists.{atFront, zeros}
-use Rattle.index.specs.declared.Test.{Test}
-use Rattle.index.specs.declared.Test.the-variants.{Passed, Failed}
+use Rattle.accept.specs.declared.Test.{Test}
+use Rattle.accept.specs.declared.Test.the-variants.{Passed, Failed}
+use Rattle.accept.specs.Lists.{atFront, zeros}
 use Rattle.set.specs.Tests.{setQueryTested}
 use Rattle.set.specs.Answers.{queryTested}
 use Rattle.nearest.specs.declared.Nearest.{Nearest}

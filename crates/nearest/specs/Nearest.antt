@@ -11,9 +11,9 @@ use Rattle.number.specs.Signs.{absOf}
 use Rattle.boundary.specs.declared.Point.{Point}
 use Rattle.boundary.specs.Folds.{run, fold}
 use Rattle.boundary.specs.Outline.{edges}
-use Rattle.boundary.specs.Nearest.{nearestOf, signedOf}
+use Rattle.distance.specs.Nearest.{nearestOf, signedOf}
 use Rattle.geometry.specs.Polygon.{containsOf}
-use Rattle.geometry.specs.Refusals.{number}
+use Rattle.accept.specs.Refusals.{number}
 use Rattle.set.specs.Set.{outlineAt}
 use Rattle.nearest.specs.declared.Best.{Best}
 use Rattle.nearest.specs.declared.Nearest.{Nearest}

@@ -10,8 +10,8 @@ use Rattle.boundary.specs.declared.Bounds.{Bounds}
 use Rattle.boundary.specs.Boxes.{gapOf}
 use Rattle.boundary.specs.Folds.{fold}
 use Rattle.sorts.specs.Keys.{totalLess}
-use Rattle.index.specs.Tree.{Tree, leaf, inner, indexOf}
-use Rattle.index.specs.Layout.{extra}
+use Rattle.splits.specs.Tree.{Tree, leaf, inner, indexOf}
+use Rattle.nodes.specs.Layout.{extra}
 use Rattle.set.specs.Set.{setBoxes}
 use Rattle.nearest.specs.declared.Nearest.{Nearest}
 use Rattle.nearest.specs.declared.Nearest.the-variants.{Refused, None, At}

@@ -1,7 +1,7 @@
 -- The search for the nearest outline: what it reads, and how it takes the better of two. Definitions only.
 use mathlib.Core.Path.{_≡_}
 use mathlib.Core.Bool.{Bool, true, cond, _&&_, _||_}
-use mathlib.Core.List.{List}
+use mathlib.Core.List.{List, flatMap}
 use Prim.Native.Nat.{ℕ, _+_, _<_}
 use lib.Dec.{T, ltb}
 use lib.ListN.{length, getD}
@@ -9,12 +9,12 @@ use lib.Ieee.{Float, nan, binary64, fits, lt, eq}
 use Rattle.boundary.specs.declared.Point.{Point}
 use Rattle.boundary.specs.Boxes.{pointInField, gapOf}
 use Rattle.boundary.specs.Folds.{fold}
-use Rattle.geometry.specs.Lists.{atFront}
+use Rattle.accept.specs.Lists.{atFront}
 use Rattle.heap.specs.declared.Entry.{Entry}
 use Rattle.heap.specs.Heap.{Pushed}
-use Rattle.index.specs.Entries.{boxAt, flat}
-use Rattle.index.specs.Tree.{indexOf, itemsOf}
-use Rattle.index.specs.Layout.{nodesOf, cornersOf, linksOf}
+use Rattle.entries.specs.Entries.{boxAt}
+use Rattle.splits.specs.Tree.{indexOf, itemsOf}
+use Rattle.nodes.specs.Layout.{nodesOf, cornersOf, linksOf}
 use Rattle.set.specs.Set.{setBoxes, Fit}
 use Rattle.set.specs.Answers.{Starts}
 use Rattle.nearest.specs.declared.Best.{Best}
@@ -48,8 +48,8 @@ pub record Indexed (v : List Float) (cs : List ℕ) (C : List Float) (L I : List
   pub pastCorners : List Float
   pub pastLinks : List ℕ
   pub pastItems : List ℕ
-  pub corners : C ≡ atFront (flat cornersOf (nodesOf (indexOf (setBoxes v cs)))) pastCorners
-  pub links : L ≡ atFront (flat linksOf (nodesOf (indexOf (setBoxes v cs)))) pastLinks
+  pub corners : C ≡ atFront (flatMap cornersOf (nodesOf (indexOf (setBoxes v cs)))) pastCorners
+  pub links : L ≡ atFront (flatMap linksOf (nodesOf (indexOf (setBoxes v cs)))) pastLinks
   pub items : I ≡ atFront (itemsOf (indexOf (setBoxes v cs))) pastItems
 
 -- both of two entries came into the heap f of n, which became k

@@ -1,49 +1,32 @@
-// What the query returns and puts into its answer fields: zeros where it refuses, and in the other fields
-// where there is none.
+// What the query returns and puts into its answer fields.
 ghost use mathlib.Core.Path.{_≡_};
 ghost use Rattle.nearest.specs.Nearest.{nearestNumber, foundIn, outlineIn, distanceIn};
+use crate::Fields;
 use crate::Nearest;
+use accept::refusals::number_of;
 
-// What the call returns.
-pub fn number_of(a: Nearest) -> u32
-    ensures { λ r. ⌜ r ≡ nearestNumber a ⌝ }
+// Zeros where it refuses, and in the other fields where there is none.
+pub fn fields(a: Nearest) -> Fields
+    ensures { λ r. ⌜ r ≡ record { number = nearestNumber a; found = foundIn a; outline = outlineIn a; distance = distanceIn a } ⌝ }
 {
     match a {
-        Nearest::Refused(r) => geometry::refusals::number_of(r),
-        Nearest::None => 0,
-        Nearest::At(_) => 0,
-    }
-}
-
-// Whether there is a nearest outline: 1, or 0.
-pub fn found_of(a: Nearest) -> u32
-    ensures { λ r. ⌜ r ≡ foundIn a ⌝ }
-{
-    match a {
-        Nearest::Refused(_) => 0,
-        Nearest::None => 0,
-        Nearest::At(_) => 1,
-    }
-}
-
-// Its number.
-pub fn outline_of(a: Nearest) -> u32
-    ensures { λ r. ⌜ r ≡ outlineIn a ⌝ }
-{
-    match a {
-        Nearest::Refused(_) => 0,
-        Nearest::None => 0,
-        Nearest::At(b) => b.outline,
-    }
-}
-
-// The magnitude of its distance.
-pub fn distance_of(a: Nearest) -> f64
-    ensures { λ r. ⌜ r ≡ distanceIn a ⌝ }
-{
-    match a {
-        Nearest::Refused(_) => 0.0,
-        Nearest::None => 0.0,
-        Nearest::At(b) => b.distance,
+        Nearest::Refused(r) => Fields {
+            number: number_of(r),
+            found: 0,
+            outline: 0,
+            distance: 0.0,
+        },
+        Nearest::None => Fields {
+            number: 0,
+            found: 0,
+            outline: 0,
+            distance: 0.0,
+        },
+        Nearest::At(b) => Fields {
+            number: 0,
+            found: 1,
+            outline: b.outline,
+            distance: b.distance,
+        },
     }
 }

@@ -9,22 +9,21 @@ ghost use lib.ListN.{length};
 ghost use lib.Ieee.{binary64, fits};
 ghost use Rattle.boundary.specs.Boxes.{inField, pointInField, gapAlong, gapOf};
 ghost use Rattle.boundary.specs.Folds.{run, any};
-ghost use Rattle.boundary.specs.Nearest.{nearestOf};
+ghost use Rattle.distance.specs.Nearest.{nearestOf};
 ghost use Rattle.boundary.specs.Outline.{count, edges};
 ghost use Rattle.heap.specs.Order.{Number};
 ghost use Rattle.heap.specs.Heap.{entryAt, Heaped};
 ghost use Rattle.sorts.specs.Sort.{In};
-ghost use Rattle.index.specs.Entries.{boxAt};
-ghost use Rattle.index.specs.Layout.{itemAt};
+ghost use Rattle.entries.specs.Entries.{boxAt};
+ghost use Rattle.nodes.specs.Layout.{itemAt};
 ghost use Rattle.set.specs.Answers.{Ready, clearedCorners, clearedLinks, clearedItems};
 ghost use Rattle.nearest.specs.Nearest.{magnitudeAt, leastOf, nearestIn};
 ghost use Rattle.nearest.specs.Walk.{improved, bestOf, Doubles, Asked, Indexed, Opened, entryFor};
 ghost use Rattle.nearest.specs.Answers.{nearestAnswer, Cleared};
+use accept::Refusal;
+use accept::Test;
+use accept::lists;
 use boundary::Point;
-use geometry::Refusal;
-use geometry::lists;
-use index::Test;
-use index::entries;
 use number::root::hypot;
 use number::signs::max;
 use set::outlines;
@@ -32,6 +31,14 @@ use set::refusals::query_tested;
 
 // An outline's number, and the magnitude of its distance.
 pub struct Best {
+    pub outline: u32,
+    pub distance: f64,
+}
+
+// What the query returns, and what it puts into its answer fields.
+pub struct Fields {
+    pub number: u32,
+    pub found: u32,
     pub outline: u32,
     pub distance: f64,
 }
@@ -94,7 +101,7 @@ fn edge_distance(o: &[f64], p: Point) -> f64
     requires { ⌜ (any (λ x. not (inField x)) (now o) ≡ false) × (pointInField p ≡ true) × (0 < count (now o)) ⌝ }
     ensures { λ r. ⌜ r ≡ nearestOf (edges (now (o .entry))) p .d ⌝ }
 {
-    let f = boundary::nearest::nearest_edge(o, p);
+    let f = distance::nearest::nearest_edge(o, p);
     let q = f.q;
     hypot(p.x - q.x, p.y - q.y)
 }

@@ -2,13 +2,14 @@
 ghost use mathlib.Core.Path.{_≡_};
 ghost use mathlib.Core.Bool.{true, _&&_};
 ghost use Prim.Native.Nat.{_+_, _-_, _*_, _^_, _≤_, _<_};
-ghost use lib.Dec.{leb, ltb};
+ghost use lib.Dec.{ltb};
 ghost use lib.Ieee.{le, lt};
 ghost use Rattle.number.specs.Root.{rootOf, sqrtOf, Near};
 ghost use Rattle.number.specs.Hypot.{hypotOf, squareLeast, squareEnd, clearlyLess, clearLimit, Short};
 ghost use Rattle.number.specs.Signs.{absOf};
 use crate::signs::abs;
 use crate::signs::pick;
+use std::num::wrapping_sub_u64;
 
 // 2^-511 and 2^512.
 const SQUARE_LEAST: f64 = 1.4916681462400413e-154;
@@ -49,20 +50,25 @@ fn is_low(c: u64, q: u64) -> bool
     s.hi + (s.lo + (0x20_0000_0000_0000 - q)) / 0x10_0000_0000_0000 < c + 2
 }
 
-// Whether c * 2^52 is at most q's square and q: whether the root is below q + 1/2.
-fn is_high(c: u64, q: u64) -> bool
-    requires { ⌜ (c < 2 ^ 54) × (q < 2 ^ 53) ⌝ }
-    ensures { λ r. ⌜ r ≡ leb (c * 2 ^ 52) (q * q + q) ⌝ }
-{
-    let s = square(q);
-    c <= s.hi + (s.lo + q) / 0x10_0000_0000_0000
-}
-
+// Whether q's square is within q of c * 2^52, so that q is the whole number nearest to the root. With a and b the
+// upper 27 and the lower 26 bits of q, c * 2^52 - q * q is (c - a * a) * 2^52 - 2 * a * b * 2^26 - b * b; the first
+// two differences have to be small, and the third is compared.
 fn is_root(c: u64, q: u64) -> bool
     requires { ⌜ (c < 2 ^ 54) × (q < 2 ^ 53) ⌝ }
     ensures { λ r. ⌜ (r ≡ true → Near c q) ⌝ }
 {
-    is_low(c, q) && is_high(c, q)
+    let a = q / 0x400_0000;
+    let b = q % 0x400_0000;
+    let e = wrapping_sub_u64(c, a * a);
+    if e < 0x10_0000_0000 {
+        let f = wrapping_sub_u64(e * 0x400_0000 + 0x4000_0000, 2 * (a * b));
+        if f < 0x8000_0000 {
+            let m = f * 0x400_0000 + q;
+            let n = b * b + 0x100_0000_0000_0000;
+            return (n < m) & (m <= n + 2 * q);
+        }
+    }
+    false
 }
 
 // The nearest root by bisection: 52 turns.
@@ -83,45 +89,33 @@ fn bisect(c: u64) -> u64
     lo
 }
 
-// A guess at the nearest root of c * (1 + p) * 2^52: the root of the number z from 1 to 4 whose digits c
-// has. The bit trick for 1 / √z and two steps of Newton's method give the root's upper 26 digits u, whose
-// square is exact; while z - u * u is worked out a third step gives the divisor for the rest. Nothing is
-// claimed of the guess but its range.
-fn guess(c: u64, p: u64) -> u64
-    requires { ⌜ (2 ^ 52 ≤ c) × (c < 2 ^ 53) × (p < 2) ⌝ }
-    ensures { λ r. ⌜ (2 ^ 52 ≤ r) × (r < 2 ^ 53) ⌝ }
+// A guess at the root of the number z whose bits are i. The bit trick for 1 / √z and two steps of Newton's method
+// give the root's upper 26 digits u, whose square is exact, and z - u * u the rest. Nothing is claimed of it.
+fn guess(i: u64) -> f64
+    requires { ⌜ i ≤ 2047 * 2 ^ 52 ⌝ }
 {
-    let i = (1022 + p) * 0x10_0000_0000_0000 + c;
     let z = f64::from_bits(i);
     let y0 = f64::from_bits(0x5fe6_ed21_02dc_bfda - i / 2);
     let h = z * 0.5;
     let y1 = 1.50087895511633457 * y0 - h * y0 * (y0 * y0);
     let y2 = 1.50000057967625766 * y1 - h * y1 * (y1 * y1);
     let s = z * y2;
-    if s >= 0.5 {
-        let b = f64::to_bits(s) % 0x4000_0000_0000_0000;
+    if s > 0.0 {
+        let b = f64::to_bits(s);
         let u = f64::from_bits(b - b % 0x800_0000);
-        let y = 1.5 * y2 - h * y2 * (y2 * y2);
-        let k = 0.5 * y;
-        let g = u + (z - u * u) * (k + (z * y - u) * (k * k));
-        if g >= 2.0 {
-            return 0x1f_ffff_ffff_ffff;
-        }
-        if g >= 1.0 {
-            return f64::to_bits(g) % 0x10_0000_0000_0000 + 0x10_0000_0000_0000;
-        }
+        let k = 0.5 * y2;
+        let r = (z - u * u) * k;
+        return u + r * (2.0 - u * y2 - r * k);
     }
-    0x10_0000_0000_0000
+    s
 }
 
-// The whole number nearest to the root of c * (1 + p) * 2^52. A guess that a check proves, or else
-// a neighbour of it that does, or else by bisection.
-fn nearest_root(c: u64, p: u64) -> u64
-    requires { ⌜ (2 ^ 52 ≤ c) × (c < 2 ^ 53) × (p < 2) ⌝ }
-    ensures { λ r. ⌜ Near (c * (1 + p)) r ⌝ }
+// The whole number nearest to the root of d * 2^52: q where a check proves it, or else a neighbour of q that it
+// does, or else by bisection.
+fn nearest_root(d: u64, q: u64) -> u64
+    requires { ⌜ (2 ^ 52 ≤ d) × (d ≤ 2 ^ 54 - 2) × (2 ^ 52 ≤ q) × (q < 2 ^ 53) ⌝ }
+    ensures { λ r. ⌜ Near d r ⌝ }
 {
-    let d = c * (1 + p);
-    let q = guess(c, p);
     if is_root(d, q) {
         return q;
     }
@@ -136,13 +130,25 @@ fn nearest_root(c: u64, p: u64) -> u64
     bisect(d)
 }
 
-// The root of c * 2^(w + 52) / 2^1200, rounded once.
-fn root_of(c: u64, w: u64) -> f64
-    requires { ⌜ (2 ^ 52 ≤ c) × (c < 2 ^ 53) × (2 ≤ w) × (w ≤ 2119) ⌝ }
+// The root of c * 2^(w + 52) / 2^1200, rounded once: the guess at the root of the number whose bits are i, where
+// that has the right exponent and a check proves its digits, or else the digits' nearest root.
+fn root_of(c: u64, w: u64, i: u64) -> f64
+    requires { ⌜ (2 ^ 52 ≤ c) × (c < 2 ^ 53) × (2 ≤ w) × (w ≤ 2119) × (i ≤ 2047 * 2 ^ 52) ⌝ }
     ensures { λ r. ⌜ r ≡ rootOf (c * 2 ^ (w + 52)) ⌝ }
 {
-    let q = nearest_root(c, w % 2);
-    f64::from_bits((w / 2 + 474) * 0x10_0000_0000_0000 + q)
+    let d = c * (1 + w % 2);
+    let g = guess(i);
+    if g > 0.0 {
+        let r = f64::to_bits(g);
+        let q = r % 0x10_0000_0000_0000 + 0x10_0000_0000_0000;
+        if r / 0x10_0000_0000_0000 == w / 2 + 475 {
+            if is_root(d, q) {
+                return f64::from_bits(r);
+            }
+        }
+        return f64::from_bits((w / 2 + 474) * 0x10_0000_0000_0000 + nearest_root(d, q));
+    }
+    f64::from_bits((w / 2 + 474) * 0x10_0000_0000_0000 + bisect(d))
 }
 
 // The double nearest to the exact root.
@@ -156,9 +162,11 @@ pub fn sqrt(x: f64) -> f64
             let t = b % 0x10_0000_0000_0000;
             if e == 0 {
                 let l = (u64::leading_zeros(t) - 11) as u64;
-                return root_of(t << l, 74 - l);
+                let c = t << l;
+                let i = (1022 + l % 2) * 0x10_0000_0000_0000 + c;
+                return root_of(c, 74 - l, i);
             }
-            return root_of(t + 0x10_0000_0000_0000, e + 73);
+            return root_of(t + 0x10_0000_0000_0000, e + 73, b);
         }
         return x;
     }

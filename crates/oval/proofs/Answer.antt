@@ -1,6 +1,6 @@
 -- What the call answers for an ellipse: it is finite, and comes from a point in the quadrant of the query. Assumes nothing.
-use mathlib.Core.Path.{_≡_, refl, subst}
-use mathlib.Core.Bool.{Bool, true, false, _&&_, cond}
+use mathlib.Core.Path.{_≡_, refl, sym, subst}
+use mathlib.Core.Bool.{Bool, true, _&&_}
 use Prim.Native.Nat.{ℕ}
 use native.Mathlib.Omega.{arith}
 use lib.Dec.{T}
@@ -11,13 +11,18 @@ use Rattle.number.specs.Hypot.{hypotOf}
 use Rattle.number.specs.Signs.{absOf}
 use Rattle.boundary.specs.declared.Point.{Point}
 use Rattle.boundary.specs.declared.Distance.{Distance}
-use Rattle.boundary.specs.Ellipse.{ellipseNearest, ellipseNear}
-use Rattle.boundary.specs.Piece.{pieceNear}
-use Rattle.geometry.specs.declared.Answer.the-variants.{Refused, Away}
-use Rattle.geometry.specs.declared.Refusal.{Refusal}
-use Rattle.geometry.specs.declared.Refusal.the-variants.{BadPoint, BadEllipse}
+use Rattle.pieces.specs.Ellipse.{ellipseNearest, ellipseNear}
+use Rattle.pieces.specs.Piece.{pieceNear}
+use Rattle.accept.specs.declared.Answer.the-variants.{Refused, Away}
+use Rattle.accept.specs.declared.Refusal.{Refusal}
+use Rattle.accept.specs.declared.Refusal.the-variants.{BadEllipse}
+use Rattle.accept.specs.declared.Test.{Test}
+use Rattle.accept.specs.declared.Test.the-variants.{Passed, Failed}
+use Rattle.accept.specs.Refusals.{pointTested}
+use Rattle.accept.specs.Answers.{answerFor}
+use Rattle.accept.proofs.TestLaws.{never, passes-else, point-passed}
 use Rattle.boundary.specs.Boxes.{inField, pointInField}
-use Rattle.geometry.specs.Ellipse.{axisFits, offsetFits, ellipseFits, ellipseAnswer}
+use Rattle.oval.specs.Ellipse.{axisFits, offsetFits, ellipseFits, ellipseTested, ellipseAnswer}
 use Rattle.oval.specs.Oval.{Offset, FitsPoint, OvalAnswer, lessCentre}
 use Rattle.oval.proofs.Ranges.{Ranged, Bounded, power, tested-range, sum-range, difference-range, abs-range, hypot-range}
 use Rattle.oval.proofs.Nearest.{Found, ellipse-found}
@@ -66,14 +71,20 @@ module _ {c p : Point} {a b : Float} (Cx : InField (c .x)) (Cy : InField (c .y))
       record { distance = d .held .finite; not-negative = d .low; nearest = record { x = x .held .finite; y = y .held .finite }; moved = refl; quadrant = F .quadrant }
 
 -- ---- the theorem
+ellipse-passed : (c : Point) (a b : Float) (p : Point) (t : Test) → ellipseTested c a b p t ≡ Passed → (ellipseFits c a b p ≡ true) × (t ≡ Passed)
+unfolding ellipseTested
+ellipse-passed c a b p Passed e = passes-else (ellipseFits c a b p) BadEllipse Passed e
+ellipse-passed c a b p (Failed r) e = absurd (never e)
+
+holds : {b : Bool} → b ≡ true → T b
+holds e = subst T (sym e) tt
+
 pub oval-answer : {c : Point} {a b : Float} {p : Point} {r : Distance} → FitsPoint c → T (fits binary64 a) → T (fits binary64 b) → FitsPoint p → ellipseAnswer c a b p ≡ Away r → OvalAnswer c a b p r
-unfolding ellipseAnswer pieceNear
-oval-answer {c} {a} {b} {p} {r} C A B P e = go (pointInField p && pointInField c) (λ t. t) (ellipseFits c a b p) (λ t. t) e
+unfolding ellipseAnswer answerFor pieceNear
+oval-answer {c} {a} {b} {p} {r} C A B P e = go (ellipseTested c a b p (pointTested c (pointTested p Passed))) refl e
   where
-    away : T (pointInField p && pointInField c) → T (ellipseFits c a b p) → OvalAnswer c a b p (record { d = ellipseNear c a b p .d; v = ellipseNear c a b p .q })
-    away s t =
-        let ps = and-l (pointInField p) (pointInField c) s in
-        let cs = and-r (pointInField p) (pointInField c) s in
+    away : T (pointInField p) → T (pointInField c) → T (ellipseFits c a b p) → OvalAnswer c a b p (record { d = ellipseNear c a b p .d; v = ellipseNear c a b p .q })
+    away ps cs t =
         let Px = field-range (P .x) (and-l (inField (p .x)) (inField (p .y)) ps) in
         let Py = field-range (P .y) (and-r (inField (p .x)) (inField (p .y)) ps) in
         let Cx = field-range (C .x) (and-l (inField (c .x)) (inField (c .y)) cs) in
@@ -86,8 +97,10 @@ oval-answer {c} {a} {b} {p} {r} C A B P e = go (pointInField p && pointInField c
         (offset-of Cx Px (and-l (offsetFits (c .x) (p .x)) (offsetFits (c .y) (p .y)) offs))
         (offset-of Cy Py (and-r (offsetFits (c .x) (p .x)) (offsetFits (c .y) (p .y)) offs)))
 
-    go : (u : Bool) → (T u → T (pointInField p && pointInField c)) → (v : Bool) → (T v → T (ellipseFits c a b p))
-        → cond u (cond v (Away (record { d = ellipseNear c a b p .d; v = ellipseNear c a b p .q })) (Refused BadEllipse)) (Refused BadPoint) ≡ Away r → OvalAnswer c a b p r
-    go true f true g e = subst (OvalAnswer c a b p) (away-same e) (away (f tt) (g tt))
-    go true f false g e = refused-not-away e
-    go false f v g e = refused-not-away e
+    go : (t : Test) → ellipseTested c a b p (pointTested c (pointTested p Passed)) ≡ t → answerFor t (Away (record { d = ellipseNear c a b p .d; v = ellipseNear c a b p .q })) ≡ Away r → OvalAnswer c a b p r
+    go Passed t e =
+        let f = ellipse-passed c a b p _ t in
+        let cs = point-passed c _ (f .1) in
+        let ps = point-passed p Passed (cs .1) in
+        subst (OvalAnswer c a b p) (away-same e) (away (holds (ps .0)) (holds (cs .0)) (holds (f .0)))
+    go (Failed n) t e = refused-not-away e

@@ -10,8 +10,8 @@ use Rattle.number.proofs.Basics.{or-split}
 use Rattle.number.proofs.OrderLaws.{below-le, not-below}
 use Rattle.number.proofs.Values.{zero-held, abs-held, held-not-nan}
 use Rattle.boundary.specs.declared.Point.{Point}
-use Rattle.boundary.specs.Ellipse.{longNearest, ellipseNearest, swapped}
-use Rattle.geometry.specs.Ellipse.{leastOffset}
+use Rattle.pieces.specs.Ellipse.{longNearest, ellipseNearest, swapped}
+use Rattle.oval.specs.Ellipse.{leastOffset}
 use Rattle.oval.specs.Oval.{Axis, Offset, InQuadrant, OvalPoint}
 use Rattle.oval.proofs.Ranges.{Bounded, tested-range, equal-range, copysign-range, abs-range}
 use Rattle.oval.proofs.Quadrant.{AxisRange, Stands, quadrant-range}

@@ -13,8 +13,9 @@ use Rattle.number.proofs.OrderLaws.{below-not-le, below-through}
 use Rattle.number.proofs.Monotone.{one-le-quotient}
 use Rattle.boundary.specs.Line.{one}
 use Rattle.boundary.specs.declared.Point.{Point}
-use Rattle.boundary.specs.declared.Curve.{Curve}
-use Rattle.boundary.specs.Ellipse.{half, square, excess, middle, curveAt, halve, halvedOf, upperEnd, curveOf, rootIn, footAt, offAxes, onAxis, quadrantNearest}
+use Rattle.pieces.specs.declared.Curve.{Curve}
+use Rattle.boundary.specs.Line.{half, middle}
+use Rattle.pieces.specs.Ellipse.{square, excess, curveAt, halve, halvedOf, upperEnd, curveOf, rootIn, footAt, offAxes, onAxis, quadrantNearest}
 use Rattle.oval.proofs.Ranges.{Ranged, Bounded, power, part, number-range, wider, sum-range, difference-range, product-range, multiple-range, quotient-range, root-range, hypot-range, max-zero-range, above-range, above-zero-range}
 
 -- a semi-axis

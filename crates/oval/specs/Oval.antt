@@ -9,8 +9,8 @@ use Rattle.number.specs.Exact.{zeroᶠ}
 use Rattle.number.specs.Signs.{signBit, absOf}
 use Rattle.boundary.specs.declared.Point.{Point}
 use Rattle.boundary.specs.declared.Distance.{Distance}
-use Rattle.boundary.specs.Ellipse.{ellipseNearest}
-use Rattle.geometry.specs.Ellipse.{axisFits, leastOffset}
+use Rattle.pieces.specs.Ellipse.{ellipseNearest}
+use Rattle.oval.specs.Ellipse.{axisFits, leastOffset}
 
 -- ---- what is given: numbers of `f64`
 -- a semi-axis that passes test 12

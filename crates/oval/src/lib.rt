@@ -1,1 +1,2 @@
-// Laws only: the nearest point of an ellipse that passes the tests is finite, and on the side of the query.
+// A whole ellipse: its tests and its nearest point, with the laws that it is finite and on the side of the query.
+pub mod ellipse;

@@ -1,26 +1,26 @@
 -- The front of a list, written to another one by one. Assumes nothing.
 use mathlib.Core.Path.{_≡_, refl, sym, ap, _∙_}
-use mathlib.Core.List.{List, [], _∷_, _++_}
-use Prim.Native.Nat.{ℕ, suc, _<_, _≤_}
+use mathlib.Core.List.{List, _++_}
+use Prim.Native.Nat.{ℕ, suc, _<_}
 use native.Mathlib.Omega.{arith}
 use lib.ListN.{length, getD, set, take, drop}
 use lib.Seq.{take-suc, drop-cons, set-at, append-snoc, length-take-le}
 use Rattle.number.specs.Exact.{zeroᶠ}
-use Rattle.index.specs.declared.Node.{Node}
+use Rattle.nodes.specs.declared.Node.{Node}
 
 -- a node, where any will do
 abbrev pub blank : Node
 blank = record { lo = record { x = zeroᶠ; y = zeroᶠ }; hi = record { x = zeroᶠ; y = zeroᶠ }; first = 0; count = 0 }
 
 -- the first i of `list` stand in place of the first i of xs
-abbrev pub Upto : {A : Type 0} → List A → List A → ℕ → List A → Type 0
-Upto list xs i ys = ys ≡ take i list ++ drop i xs
+abbrev pub FrontOf : {A : Type 0} → List A → List A → ℕ → List A → Type 0
+FrontOf list xs i ys = ys ≡ take i list ++ drop i xs
 
-pub upto-none : {A : Type 0} (list xs : List A) → Upto list xs 0 xs
-upto-none list xs = refl
+pub front-none : {A : Type 0} (list xs : List A) → FrontOf list xs 0 xs
+front-none list xs = refl
 
-pub upto-more : {A : Type 0} (list xs ys : List A) (i : ℕ) (d : A) → Upto list xs i ys → i < length list → i < length xs → Upto list xs (suc i) (set ys i (getD list i d))
-upto-more {A} list xs ys i d e h l =
+pub front-more : {A : Type 0} (list xs ys : List A) (i : ℕ) (d : A) → FrontOf list xs i ys → i < length list → i < length xs → FrontOf list xs (suc i) (set ys i (getD list i d))
+front-more {A} list xs ys i d e h l =
     let r : A = getD list i d in
     ap (λ (zs : List A). set zs i r) (e ∙ ap (λ (zs : List A). take i list ++ zs) (drop-cons xs i d l))
     ∙ set-at (take i list) (getD xs i d) (drop (suc i) xs) r i (length-take-le i list (omega arith))

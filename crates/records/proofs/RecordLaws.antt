@@ -1,6 +1,6 @@
 -- The node records of an index buffer. Assumes nothing.
 use mathlib.Core.Path.{_≡_, refl, ap, _∙_}
-use mathlib.Core.List.{List, [], _++_}
+use mathlib.Core.List.{List, [], _++_, flatMap}
 use Prim.Native.Nat.{ℕ, _+_, _≤_, _<_}
 use native.Mathlib.Numerals.{add-one}
 use native.Mathlib.Omega.{arith}
@@ -12,21 +12,22 @@ use lib.Seq.{take-suc-set, ext-getD}
 use lib.Ieee.{Float}
 use Rattle.boundary.specs.Folds.{run}
 use Rattle.boundary.proofs.RunLaws.{run-last}
-use Rattle.geometry.specs.Lists.{atFront}
-use Rattle.geometry.specs.declared.Refusal.{Refusal}
-use Rattle.geometry.specs.Refusals.{number}
-use Rattle.index.specs.declared.Node.{Node}
+use Rattle.accept.specs.declared.Test.{Test}
+use Rattle.accept.specs.declared.Test.the-variants.{Passed, Failed}
+use Rattle.accept.specs.Lists.{atFront, writtenFor}
+use Rattle.accept.proofs.TestLaws.{room-passed}
+use Rattle.accept.specs.declared.Refusal.{Refusal}
+use Rattle.accept.specs.Refusals.{number}
+use Rattle.nodes.specs.declared.Node.{Node}
 use Rattle.records.specs.declared.Recording.{Recording}
-use Rattle.index.specs.declared.Test.{Test}
-use Rattle.index.specs.declared.Test.the-variants.{Passed, Failed}
-use Rattle.index.specs.Answers.{builtFor, writtenFor, builtNumber, nodesIn, itemsIn, boxesTested, shortIndex, Stored}
+use Rattle.index.specs.Answers.{builtFor, builtNumber, nodesIn, itemsIn, boxesTested, shortIndex, Stored}
 use Rattle.records.specs.Records.{nodesTested, nodesAnswer, recordNodes, recordItems, Recorded}
-use Rattle.index.proofs.GrowLaws.{or-none, room-passed, boxes-passed, index-nodes, length-index-items}
-use Rattle.index.specs.Entries.{boxCount, flat}
-use Rattle.index.specs.Tree.{Tree, indexOf}
-use Rattle.index.specs.Layout.{nodeOf, nodesOf, cornersOf, linksOf}
+use Rattle.index.proofs.GrowLaws.{or-none, boxes-passed, index-nodes, length-index-items}
+use Rattle.entries.specs.Entries.{boxCount}
+use Rattle.splits.specs.Tree.{Tree, indexOf}
+use Rattle.nodes.specs.Layout.{nodeOf, nodesOf, cornersOf, linksOf}
 use Rattle.records.specs.Records.{nodeIn}
-use Rattle.index.proofs.StoreLaws.{length-run, run-at}
+use Rattle.entries.proofs.StoreLaws.{length-run, run-at}
 use Rattle.index.proofs.ReadLaws.{NodeIs, node-is}
 
 -- the run g 0, g 1, .. at the front of a list, written one by one
@@ -40,16 +41,16 @@ unfolding nodeIn
 read-node B K i x s = rw (s .box, s .first, s .count)
 
 -- an index buffer's nodes are the tree's
-pub stored-nodes : (t : Tree) (C : List Float) (L : List ℕ) → run (nodeIn (atFront (flat cornersOf (nodesOf t)) C) (atFront (flat linksOf (nodesOf t)) L)) 0 (length (nodesOf t)) ≡ nodesOf t
+pub stored-nodes : (t : Tree) (C : List Float) (L : List ℕ) → run (nodeIn (atFront (flatMap cornersOf (nodesOf t)) C) (atFront (flatMap linksOf (nodesOf t)) L)) 0 (length (nodesOf t)) ≡ nodesOf t
 unfolding atFront
 stored-nodes t C L =
     let N = nodesOf t in
-    let B = flat cornersOf N ++ drop (length (flat cornersOf N)) C in
-    let K = flat linksOf N ++ drop (length (flat linksOf N)) L in
+    let B = flatMap cornersOf N ++ drop (length (flatMap cornersOf N)) C in
+    let K = flatMap linksOf N ++ drop (length (flatMap linksOf N)) L in
     let e = nodeOf t 0 1 in
     let n = length-run (nodeIn B K) 0 (length N) in
     ext-getD e (run (nodeIn B K) 0 (length N)) N n
-    (λ i h. let l : i < length N = rw n at h in let z : 0 + i ≡ i = omega arith in run-at (nodeIn B K) 0 (length N) i e l ∙ ap (nodeIn B K) z ∙ read-node B K i (getD N i e) (node-is N (drop (length (flat cornersOf N)) C) (drop (length (flat linksOf N)) L) e [] i l))
+    (λ i h. let l : i < length N = rw n at h in let z : 0 + i ≡ i = omega arith in run-at (nodeIn B K) 0 (length N) i e l ∙ ap (nodeIn B K) z ∙ read-node B K i (getD N i e) (node-is N (drop (length (flatMap cornersOf N)) C) (drop (length (flatMap linksOf N)) L) e [] i l))
 
 -- the list of those is what is told of a tree that is stored
 pub recorded-stored : (t : Tree) (C C′ : List Float) (L L′ I I′ : List ℕ) (n : ℕ) (xs : List Node) → Stored t C L I n C′ L′ I′ → take n xs ≡ run (nodeIn C′ L′) 0 n → Recorded t Passed I (record { number = 0; count = n; list = xs }) I′

@@ -10,10 +10,10 @@ use denote.Shadow.{shadow}
 use denote.Array.{Array, each}
 use denote.Steps.{only}
 use denote.Struct.Laws as LL
-use Rattle.index.specs.declared.Node.{Node}
+use Rattle.nodes.specs.declared.Node.{Node}
 use Rattle.records.specs.declared.Recording.{Recording}
-use Rattle.index.proofs.Node as T
-use Rattle.index.proofs.Node.Laws as T′
+use Rattle.nodes.proofs.Node as T
+use Rattle.nodes.proofs.Node.Laws as T′
 use Rattle.records.proofs.Recording as R
 use Rattle.records.proofs.Recording.Laws as R′
 

@@ -6,13 +6,15 @@ use Prim.Native.Nat.{ℕ}
 use lib.Dec.{ltb}
 use lib.ListN.{length, take, drop}
 use lib.Ieee.{Float}
-use Rattle.index.specs.declared.Node.{Node}
-use Rattle.index.specs.declared.Test.{Test}
+use Rattle.accept.specs.declared.Test.{Test}
+use Rattle.accept.specs.Lists.{writtenFor}
+use Rattle.accept.specs.Refusals.{roomTested}
+use Rattle.nodes.specs.declared.Node.{Node}
 use Rattle.index.specs.declared.Built.{Built}
-use Rattle.index.specs.Entries.{boxAt}
-use Rattle.index.specs.Tree.{Tree, indexOf, itemsOf}
-use Rattle.index.specs.Layout.{nodesOf, firstAt, countAt}
-use Rattle.index.specs.Answers.{boxesTested, roomTested, builtFor, writtenFor, builtNumber, nodesIn}
+use Rattle.entries.specs.Entries.{boxAt}
+use Rattle.splits.specs.Tree.{Tree, indexOf, itemsOf}
+use Rattle.nodes.specs.Layout.{nodesOf, firstAt, countAt}
+use Rattle.index.specs.Answers.{boxesTested, builtFor, builtNumber, nodesIn}
 use Rattle.records.specs.declared.Recording.{Recording}
 
 -- node n's record

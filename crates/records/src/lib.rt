@@ -4,16 +4,16 @@ ghost use Prim.Native.Nat.{_≤_, _<_, _^_};
 ghost use mathlib.Core.List.{_++_};
 ghost use lib.ListN.{length, take, drop};
 ghost use Rattle.boundary.specs.Folds.{run};
-ghost use Rattle.index.specs.declared.Test.the-variants.{Passed};
-ghost use Rattle.index.specs.Tree.{indexOf};
+ghost use Rattle.accept.specs.declared.Test.the-variants.{Passed};
+ghost use Rattle.splits.specs.Tree.{indexOf};
 ghost use Rattle.index.specs.Answers.{boxesTested, nodesIn, itemsIn};
 ghost use Rattle.records.specs.Records.{nodeIn, nodesTested, nodesAnswer, Recorded};
+use accept::Test;
+use accept::refusals::room_tested;
 use boundary::Point;
-use index::Node;
-use index::Test;
-use index::entries;
 use index::refusals;
 use index::tree;
+use nodes::Node;
 
 // What the call returns, how many nodes there are, and the nodes, at the front of a list.
 pub struct Recording {
@@ -87,7 +87,7 @@ fn recorded(boxes: &[f64], items: &mut [u32]) -> Recording
 fn nodes_tested(boxes: &[f64], nodes: usize, items: usize) -> Test
     ensures { λ r. ⌜ r ≡ nodesTested (now (boxes .entry)) nodes items ⌝ }
 {
-    refusals::room_tested(
+    room_tested(
         (nodes < 511) | (items < 1024),
         refusals::boxes_tested(boxes),
     )
@@ -120,7 +120,7 @@ pub fn records(
             *item_count = 0;
             let list = blank();
             Recording {
-                number: geometry::refusals::number_of(r),
+                number: accept::refusals::number_of(r),
                 count: 0,
                 list,
             }

@@ -1,6 +1,6 @@
 -- What a query over a set that passes the tests has and leaves: the boxes and starts that it writes, what it lists, and its answer. Assumes nothing.
 use mathlib.Core.Path.{_≡_, refl, ap, _∙_}
-use mathlib.Core.Bool.{Bool, true, false, cond}
+use mathlib.Core.Bool.{Bool, true}
 use mathlib.Core.List.{List}
 use Prim.Native.Nat.{ℕ, _+_, _-_, _*_, _≤_, _<_}
 use native.Mathlib.Nat.{sub-zero}
@@ -12,41 +12,32 @@ use Rattle.boundary.specs.declared.Point.{Point}
 use Rattle.boundary.specs.Boxes.{pointInField}
 use Rattle.boundary.specs.Folds.{run, any}
 use Rattle.boundary.specs.Outline.{edges}
-use Rattle.geometry.specs.declared.Refusal.the-variants.{BadPoint}
-use Rattle.geometry.specs.Lists.{atFront}
+use Rattle.accept.specs.declared.Test.the-variants.{Passed}
+use Rattle.accept.specs.Refusals.{pointTested}
+use Rattle.accept.specs.Lists.{atFront}
+use Rattle.accept.proofs.TestLaws.{point-passed, room-passed}
 use Rattle.geometry.specs.Polygon.{containsOf}
-use Rattle.index.specs.declared.Test.{Test}
-use Rattle.index.specs.declared.Test.the-variants.{Passed, Failed}
-use Rattle.index.specs.Tree.{indexOf}
+use Rattle.splits.specs.Tree.{indexOf}
 use Rattle.index.specs.Answers.{boxesTested, shortIndex, Accepted}
-use Rattle.index.proofs.StoreLaws.{length-run, run-at, sets-front}
-use Rattle.index.proofs.GrowLaws.{front-of, length-index-items, never, room-passed, accepted-of}
+use Rattle.entries.proofs.StoreLaws.{length-run, run-at, sets-front}
+use Rattle.index.proofs.GrowLaws.{front-of, length-index-items, accepted-of}
 use Rattle.meeting.specs.Meeting.{meetingOf}
 use Rattle.meeting.specs.Answers.{Listed}
 use Rattle.meeting.proofs.MeetingLaws.{length-meeting}
 use Rattle.set.specs.Set.{startOf, outlineAt, setBoxes, Fit}
-use Rattle.set.specs.Tests.{setTested, pointTestedIn, setQueryTested}
-use Rattle.set.specs.Answers.{cellAt, listedAt, anyAt, Ready, Starts, Asked}
+use Rattle.set.specs.Tests.{setTested, setQueryTested}
+use Rattle.set.specs.Answers.{cellAt, listedAt, anyAt, Ready, Starts, Answered}
 use Rattle.set.proofs.SetLaws.{passed-fit, boxes-length, boxes-tested}
 
 -- ---- what a query that passes the tests has
-point-passed : (p : Point) (t : Test) → pointTestedIn p t ≡ Passed → (pointInField p ≡ true) × (t ≡ Passed)
-unfolding pointTestedIn
-point-passed p Passed e = go (pointInField p) e
-  where
-    go : (b : Bool) → cond b Passed (Failed BadPoint) ≡ Passed → (b ≡ true) × (Passed ≡ Passed)
-    go true e = (refl, refl)
-    go false e = absurd (never e)
-point-passed p (Failed r) e = absurd (never e)
-
-pub record Passing (v : List Float) (cs : List ℕ) (p : Point) (c l n : ℕ) : Type 0 where
+pub record QueryPassed (v : List Float) (cs : List ℕ) (p : Point) (c l n : ℕ) : Type 0 where
   pub ready : Ready v cs c l n
   pub point : pointInField p ≡ true
 
-pub query-passed : (v : List Float) (cs : List ℕ) (p : Point) (c l n : ℕ) → setQueryTested v cs p c l n ≡ Passed → Passing v cs p c l n
+pub query-passed : (v : List Float) (cs : List ℕ) (p : Point) (c l n : ℕ) → setQueryTested v cs p c l n ≡ Passed → QueryPassed v cs p c l n
 unfolding setQueryTested
 query-passed v cs p c l n e =
-    let r = room-passed (shortIndex c l n) (pointTestedIn p (setTested v cs)) e in
+    let r = room-passed (shortIndex c l n) (pointTested p (setTested v cs)) e in
     let q = point-passed p (setTested v cs) (r .1) in
     let f = passed-fit v cs (q .1) in
     let a = accepted-of (setBoxes v cs) c l n (r .0) (boxes-tested v cs f) in
@@ -100,9 +91,9 @@ module _ (v : List Float) (cs : List ℕ) (p : Point) (c l n : ℕ) (ready : Rea
         rw (sub-zero r, listed .list, listed .count, take-at (meetingOf (cellAt p) (indexOf front)) (drop (length (meetingOf (cellAt p) (indexOf front))) S) (length (meetingOf (cellAt p) (indexOf front))) refl)
         (ap (λ (b : List Float). meetingOf (cellAt p) (indexOf b)) front-is)
 
-    pub asked-of : (a : Bool) → a ≡ any (λ k. containsOf (edges (outlineAt v cs k)) p) (take (r - 0) (drop 0 S′)) → Asked v cs p C L I a C′ L′ I′
+    pub answered-of : (a : Bool) → a ≡ any (λ k. containsOf (edges (outlineAt v cs k)) p) (take (r - 0) (drop 0 S′)) → Answered v cs p C L I a C′ L′ I′
     unfolding anyAt
-    asked-of a h = record {
+    answered-of a h = record {
       answer = h ∙ ap (any (λ k. containsOf (edges (outlineAt v cs k)) p)) list-is;
       corners = listed .corners;
       links = listed .links;

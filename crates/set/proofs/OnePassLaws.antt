@@ -6,10 +6,10 @@ use Prim.Native.Nat.{ℕ, _≤_, min}
 use native.Mathlib.Omega.{arith}
 use lib.Ieee.{Float}
 use Rattle.boundary.specs.Folds.{fold, any}
-use Rattle.geometry.specs.declared.Refusal.the-variants.{NotFinite, OutsideField, EqualNeighbours, ZeroArea, NegativeArea}
-use Rattle.geometry.specs.Refusals.{areaTested, edgesTested, valuesTested, signTested}
-use Rattle.index.specs.declared.Test.the-variants.{Passed, Failed}
-use Rattle.set.specs.Tests.{notFinite, outsideField, equalNeighbours, zeroArea, negativeArea, outlinesTested}
+use Rattle.accept.specs.declared.Refusal.the-variants.{NotFinite, OutsideField, EqualNeighbours, ZeroArea, NegativeArea}
+use Rattle.accept.specs.declared.Test.the-variants.{Passed, Failed}
+use Rattle.accept.specs.Refusals.{notFinite, outsideField, equalNeighbours, zeroArea, negativeArea, valuesTested, signTested}
+use Rattle.set.specs.Tests.{outlinesTested}
 use Rattle.set.specs.OnePass.{firstFailed, leastFailed, testAt, rankOf}
 
 -- test k, before those of which f gives the first: no number of these is less
@@ -82,11 +82,11 @@ least-tests os = ap testAt (least-is os) ∙ go (any notFinite os) (any outsideF
     go false false false false false = unfold testAt in refl
 
 -- one outline's number is that of what its tests say
-pub rank-first : (o : List Float) → rankOf (signTested (valuesTested o)) ≡ firstFailed o
-unfolding valuesTested edgesTested areaTested signTested firstFailed
+pub rank-first : (o : List Float) → rankOf (signTested o (valuesTested o)) ≡ firstFailed o
+unfolding valuesTested signTested firstFailed
 rank-first o = go (notFinite o) refl (outsideField o) refl (equalNeighbours o) refl (zeroArea o) refl (negativeArea o) refl
   where
-    go : (a : Bool) → notFinite o ≡ a → (b : Bool) → outsideField o ≡ b → (c : Bool) → equalNeighbours o ≡ c → (d : Bool) → zeroArea o ≡ d → (e : Bool) → negativeArea o ≡ e → rankOf (signTested (valuesTested o)) ≡ firstFailed o
+    go : (a : Bool) → notFinite o ≡ a → (b : Bool) → outsideField o ≡ b → (c : Bool) → equalNeighbours o ≡ c → (d : Bool) → zeroArea o ≡ d → (e : Bool) → negativeArea o ≡ e → rankOf (signTested o (valuesTested o)) ≡ firstFailed o
     go true p b q c r d s e t = rw p
     go false p true q c r d s e t = rw (p, q)
     go false p false q true r d s e t = rw (p, q, r)

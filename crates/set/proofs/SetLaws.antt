@@ -1,7 +1,7 @@
 -- What a set that passes the tests has: its outlines' numbers are its list's, and their boxes pass the tests of boxes. Assumes nothing.
 use mathlib.Core.Path.{_≡_, refl, sym, ap, subst, _∙_}
-use mathlib.Core.Bool.{Bool, true, false, not, cond, _||_}
-use mathlib.Core.List.{List}
+use mathlib.Core.Bool.{Bool, true, false, not, _||_}
+use mathlib.Core.List.{List, flatMap}
 use Prim.Native.Nat.{ℕ, zero, suc, _+_, _-_, _*_, _%_, _≤_, _<_}
 use native.Mathlib.Nat.{add-zero, add-suc}
 use native.Mathlib.Numerals.{add-one}
@@ -18,19 +18,19 @@ use Rattle.boundary.specs.Folds.{run, fold, any, oddly}
 use Rattle.boundary.specs.Outline.{count, vertices, edges}
 use Rattle.boundary.proofs.FoldLaws.{any-at}
 use Rattle.boundary.proofs.RunLaws.{run-last}
-use Rattle.geometry.specs.declared.Refusal.{Refusal}
-use Rattle.geometry.specs.declared.Refusal.the-variants.{OddCount, BadCounts, TooFew, TooMany, NotFinite, OutsideField, EqualNeighbours, ZeroArea, NegativeArea}
+use Rattle.accept.specs.declared.Refusal.the-variants.{OddCount, BadCounts, TooFew, TooMany, NotFinite, OutsideField, EqualNeighbours, ZeroArea, NegativeArea}
+use Rattle.accept.specs.declared.Test.the-variants.{Passed}
+use Rattle.accept.specs.Refusals.{notFinite, outsideField, equalNeighbours, zeroArea, negativeArea}
+use Rattle.accept.proofs.TestLaws.{passes, passes-else}
 use Rattle.geometry.specs.Polygon.{boundsOf, containsOf}
-use Rattle.index.specs.declared.Test.{Test}
-use Rattle.index.specs.declared.Test.the-variants.{Passed, Failed}
-use Rattle.index.specs.Entries.{boxCount, boxAt, boxNumbers, flat, boxesOf}
+use Rattle.entries.specs.Entries.{boxCount, boxAt, boxNumbers, boxesOf}
 use Rattle.boundary.specs.Boxes.{boxFits}
 use Rattle.index.specs.Answers.{boxesTested}
-use Rattle.index.proofs.StoreLaws.{length-run, run-at, flat-length}
-use Rattle.index.proofs.EntryLaws.{box-held}
-use Rattle.index.proofs.GrowLaws.{or-none, never}
+use Rattle.entries.proofs.StoreLaws.{length-run, run-at, flat-length}
+use Rattle.entries.proofs.EntryLaws.{box-held}
+use Rattle.index.proofs.GrowLaws.{or-none}
 use Rattle.set.specs.Set.{startOf, outlineAt, outlinesOf, setBoxes, Fit}
-use Rattle.set.specs.Tests.{notFinite, outsideField, equalNeighbours, zeroArea, negativeArea, addsUp, anyFew, anyMany, overSize, outlinesTested, sizesTested, setTested}
+use Rattle.set.specs.Tests.{addsUp, anyFew, anyMany, overSize, outlinesTested, sizesTested, setTested}
 use Rattle.set.proofs.AnyLaws.{any-append, none-of}
 use Rattle.set.proofs.BoundsLaws.{InField, bounds-spanned, spanned-box, spanned-fits}
 
@@ -98,14 +98,6 @@ module _ (v : List Float) (cs : List ℕ) (p : Float → Bool) where
   any-number e = sym (ap (any p) (take-all (2 * startOf cs (length cs)) v (omega arith))) ∙ any-before (length cs)
 
 -- ---- what passing the tests tells
-passes : (b : Bool) (r : Refusal) (t : Test) → cond b (Failed r) t ≡ Passed → (b ≡ false) × (t ≡ Passed)
-passes true r t e = absurd (never e)
-passes false r t e = (refl, e)
-
-passes-else : (b : Bool) (r : Refusal) (t : Test) → cond b t (Failed r) ≡ Passed → (b ≡ true) × (t ≡ Passed)
-passes-else true r t e = (refl, e)
-passes-else false r t e = absurd (never e)
-
 even-of : (n : ℕ) → (n % 2 ≡ 1 → ⊥) → n % 2 ≡ 0
 even-of n h = omega arith
 
@@ -200,8 +192,8 @@ module _ (v : List Float) (cs : List ℕ) (fit : Fit v cs) (k : ℕ) (l : k < le
   outline-in-field = none-of (λ x. not (inField x)) nan (outlineAt v cs k) (outline-each (λ x. not (inField x) ≡ false) (λ i m. any-at (λ x. not (inField x)) nan v i m (fit .in-field)))
 
 -- ---- their boxes
-flat-of : {A B : Type 0} (f : B → List A) (h : ℕ → B) (i n : ℕ) {C : Type 0} (g : ℕ → C) (b : C → B) → ((j : ℕ) → b (g j) ≡ h j) → flat (λ c. f (b c)) (run g i n) ≡ flat f (run h i n)
-unfolding flat run
+flat-of : {A B : Type 0} (f : B → List A) (h : ℕ → B) (i n : ℕ) {C : Type 0} (g : ℕ → C) (b : C → B) → ((j : ℕ) → b (g j) ≡ h j) → flatMap (λ c. f (b c)) (run g i n) ≡ flatMap f (run h i n)
+unfolding flatMap run
 flat-of f h i zero g b e = refl
 flat-of f h i (suc n) g b e = rw (e i, flat-of f h (suc i) n g b e)
 
@@ -210,7 +202,7 @@ module _ (v : List Float) (cs : List ℕ) where
   abbrev pub setBox : ℕ → Bounds
   setBox k = boundsOf (vertices (outlineAt v cs k))
 
-  boxes-flat : setBoxes v cs ≡ flat boxNumbers (run setBox 0 (length cs))
+  boxes-flat : setBoxes v cs ≡ flatMap boxNumbers (run setBox 0 (length cs))
   unfolding setBoxes outlinesOf
   boxes-flat = flat-of boxNumbers setBox 0 (length cs) (outlineAt v cs) (λ o. boundsOf (vertices o)) (λ j. refl)
 

@@ -10,14 +10,13 @@ use Rattle.boundary.specs.declared.Point.{Point}
 use Rattle.boundary.specs.declared.Bounds.{Bounds}
 use Rattle.boundary.specs.Folds.{any}
 use Rattle.boundary.specs.Outline.{edges}
-use Rattle.geometry.specs.declared.Answer.{Answer}
-use Rattle.geometry.specs.declared.Answer.the-variants.{Refused, Told}
-use Rattle.geometry.specs.Lists.{atFront, zeros}
+use Rattle.accept.specs.declared.Answer.{Answer}
+use Rattle.accept.specs.declared.Answer.the-variants.{Told}
+use Rattle.accept.specs.declared.Test.{Test}
+use Rattle.accept.specs.Answers.{answerFor}
+use Rattle.accept.specs.Lists.{atFront, zeros, writtenFor}
 use Rattle.geometry.specs.Polygon.{containsOf}
-use Rattle.index.specs.declared.Test.{Test}
-use Rattle.index.specs.declared.Test.the-variants.{Passed, Failed}
-use Rattle.index.specs.Tree.{indexOf}
-use Rattle.index.specs.Answers.{writtenFor}
+use Rattle.splits.specs.Tree.{indexOf}
 use Rattle.meeting.specs.Meeting.{meetingOf}
 use Rattle.set.specs.Set.{startOf, outlineAt, setBoxes, Fit}
 use Rattle.set.specs.Tests.{setQueryTested}
@@ -43,13 +42,9 @@ abbrev pub queryTested : List Float → List ℕ → Point → List Float → Li
 queryTested v cs p C L I = setQueryTested v cs p (length C) (length L) (length I)
 
 -- yes is 1, and no is 0
-unfoldable pub flagFor : Bool → Test → Answer
-flagFor b Passed = Told (cond b 1 0)
-flagFor b (Failed r) = Refused r
-
 unfoldable pub anyAnswer : List Float → List ℕ → Point → List Float → List ℕ → List ℕ → Answer
-unfolding setQueryTested flagFor anyAt
-anyAnswer v cs p C L I = flagFor (anyAt v cs p) (queryTested v cs p C L I)
+unfolding setQueryTested answerFor anyAt
+anyAnswer v cs p C L I = answerFor (queryTested v cs p C L I) (Told (cond (anyAt v cs p) 1 0))
 
 -- the buffers then: zeros in the 511 nodes and 1,024 items, the rest unchanged; all unchanged where the query is refused
 unfoldable pub clearedCorners : List Float → List ℕ → Point → List Float → List ℕ → List ℕ → List Float
@@ -77,7 +72,7 @@ pub record Starts (cs S : List ℕ) : Type 0 where
   pub each : (k : ℕ) → k < length cs → getD S k 0 ≡ startOf cs k
 
 -- the answer of `any_at`, and cleared buffers
-pub record Asked (v : List Float) (cs : List ℕ) (p : Point) (C : List Float) (L I : List ℕ) (r : Bool) (C′ : List Float) (L′ I′ : List ℕ) : Type 0 where
+pub record Answered (v : List Float) (cs : List ℕ) (p : Point) (C : List Float) (L I : List ℕ) (r : Bool) (C′ : List Float) (L′ I′ : List ℕ) : Type 0 where
   pub answer : r ≡ anyAt v cs p
   pub corners : C′ ≡ atFront (zeros zeroᶠ 2044) C
   pub links : L′ ≡ atFront (zeros 0 1022) L

@@ -6,14 +6,11 @@ use lib.Dec.{eqb}
 use lib.Ieee.{Float, neg, lt, le, eq}
 use Rattle.boundary.specs.Folds.{fold, any}
 use Rattle.boundary.specs.Outline.{edges}
-use Rattle.geometry.specs.declared.Refusal.the-variants.{NotFinite, OutsideField, EqualNeighbours, ZeroArea, NegativeArea}
-use Rattle.geometry.specs.declared.Verdict.{Verdict}
-use Rattle.geometry.specs.declared.Verdict.the-variants as verdict
-use Rattle.geometry.specs.Polygon.{areaOf}
-use Rattle.geometry.specs.Refusals.{number}
-use Rattle.index.specs.declared.Test.{Test}
-use Rattle.index.specs.declared.Test.the-variants.{Passed, Failed}
-use Rattle.set.specs.Tests.{notFinite, outsideField, equalNeighbours, zeroArea, negativeArea}
+use Rattle.accept.specs.declared.Refusal.the-variants.{NotFinite, OutsideField, EqualNeighbours, ZeroArea, NegativeArea}
+use Rattle.accept.specs.declared.Test.{Test}
+use Rattle.accept.specs.declared.Test.the-variants.{Passed, Failed}
+use Rattle.accept.specs.Area.{areaOf}
+use Rattle.accept.specs.Refusals.{number, notFinite, outsideField, equalNeighbours, zeroArea, negativeArea}
 
 -- the number of the first of the tests that an outline does not pass, 10 where it passes all
 unfoldable pub firstFailed : List Float → ℕ
@@ -35,6 +32,6 @@ testAt n =
     (cond (eqb n 9) (Failed NegativeArea) Passed))))
 
 -- the number of what the tests say of an outline
-abbrev pub rankOf : Verdict → ℕ
-rankOf (verdict.Passed a) = 10
-rankOf (verdict.Failed r) = number r
+abbrev pub rankOf : Test → ℕ
+rankOf Passed = 10
+rankOf (Failed r) = number r

@@ -1,7 +1,7 @@
 -- A *set* (document 01): the outlines' vertices one after the other in one list, and each outline's vertex count. Definitions only.
 use mathlib.Core.Path.{_≡_}
 use mathlib.Core.Bool.{false, not}
-use mathlib.Core.List.{List}
+use mathlib.Core.List.{List, flatMap}
 use Prim.Native.Nat.{ℕ, zero, suc, _+_, _*_, _%_, _≤_, _<_}
 use lib.ListN.{length, getD, take, drop}
 use lib.Ieee.{Float}
@@ -9,7 +9,7 @@ use Rattle.boundary.specs.Boxes.{inField}
 use Rattle.boundary.specs.Folds.{run, any}
 use Rattle.boundary.specs.Outline.{count, vertices}
 use Rattle.geometry.specs.Polygon.{boundsOf}
-use Rattle.index.specs.Entries.{boxNumbers, flat}
+use Rattle.entries.specs.Entries.{boxNumbers}
 
 -- how many vertices stand before outline k
 unfoldable pub startOf : List ℕ → ℕ → ℕ
@@ -28,8 +28,8 @@ outlinesOf v cs = run (outlineAt v cs) 0 (length cs)
 
 -- their boxes, as a list of boxes
 unfoldable pub setBoxes : List Float → List ℕ → List Float
-unfolding flat outlinesOf boundsOf vertices
-setBoxes v cs = flat (λ o. boxNumbers (boundsOf (vertices o))) (outlinesOf v cs)
+unfolding flatMap outlinesOf boundsOf vertices
+setBoxes v cs = flatMap (λ o. boxNumbers (boundsOf (vertices o))) (outlinesOf v cs)
 
 -- what the queries need of a set that passes the tests: its counts are its list's, no outline is empty, and every number is in the field
 pub record Fit (v : List Float) (cs : List ℕ) : Type 0 where

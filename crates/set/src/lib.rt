@@ -5,11 +5,11 @@ pub mod refusals;
 ghost use mathlib.Core.Path.{_≡_};
 ghost use Prim.Native.Nat.{_*_, _≤_};
 ghost use lib.ListN.{length};
-ghost use Rattle.set.specs.Answers.{anyAnswer, clearedCorners, clearedLinks, clearedItems, Ready, Asked};
+ghost use Rattle.set.specs.Answers.{anyAnswer, clearedCorners, clearedLinks, clearedItems, Ready, Answered};
+use accept::Answer;
+use accept::Test;
 use boundary::Bounds;
 use boundary::Point;
-use geometry::Answer;
-use index::Test;
 
 // Whether an outline that `meeting` lists for p, as a cell, contains p; the index is built in the lent
 // buffers, and cleared. The first three lists are lent for the boxes, the starts and the listing.
@@ -26,7 +26,7 @@ fn any_in(
 ) -> bool
     requires { ⌜ Ready (now v) (now counts) (length (now corners)) (length (now links)) (length (now items))
         × (4 * length (now counts) ≤ length (now boxes)) × (length (now counts) ≤ length (now starts)) × (length (now list) ≡ 1024) ⌝ }
-    ensures { λ r. ⌜ Asked (now (v .entry)) (now (counts .entry)) p (now (corners .entry)) (now (links .entry)) (now (items .entry))
+    ensures { λ r. ⌜ Answered (now (v .entry)) (now (counts .entry)) p (now (corners .entry)) (now (links .entry)) (now (items .entry))
         r (now (corners .exit)) (now (links .exit)) (now (items .exit)) ⌝ }
 {
     let n = 4 * counts.len();
@@ -50,7 +50,7 @@ fn any_few(
     items: &mut [u32],
 ) -> bool
     requires { ⌜ Ready (now v) (now counts) (length (now corners)) (length (now links)) (length (now items)) × (length (now counts) ≤ 32) ⌝ }
-    ensures { λ r. ⌜ Asked (now (v .entry)) (now (counts .entry)) p (now (corners .entry)) (now (links .entry)) (now (items .entry))
+    ensures { λ r. ⌜ Answered (now (v .entry)) (now (counts .entry)) p (now (corners .entry)) (now (links .entry)) (now (items .entry))
         r (now (corners .exit)) (now (links .exit)) (now (items .exit)) ⌝ }
 {
     let mut boxes = [0.0; 128];
@@ -78,7 +78,7 @@ fn any_many(
     items: &mut [u32],
 ) -> bool
     requires { ⌜ Ready (now v) (now counts) (length (now corners)) (length (now links)) (length (now items)) ⌝ }
-    ensures { λ r. ⌜ Asked (now (v .entry)) (now (counts .entry)) p (now (corners .entry)) (now (links .entry)) (now (items .entry))
+    ensures { λ r. ⌜ Answered (now (v .entry)) (now (counts .entry)) p (now (corners .entry)) (now (links .entry)) (now (items .entry))
         r (now (corners .exit)) (now (links .exit)) (now (items .exit)) ⌝ }
 {
     let mut boxes = [0.0; 4096];
@@ -106,7 +106,7 @@ fn any_of(
     items: &mut [u32],
 ) -> bool
     requires { ⌜ Ready (now v) (now counts) (length (now corners)) (length (now links)) (length (now items)) ⌝ }
-    ensures { λ r. ⌜ Asked (now (v .entry)) (now (counts .entry)) p (now (corners .entry)) (now (links .entry)) (now (items .entry))
+    ensures { λ r. ⌜ Answered (now (v .entry)) (now (counts .entry)) p (now (corners .entry)) (now (links .entry)) (now (items .entry))
         r (now (corners .exit)) (now (links .exit)) (now (items .exit)) ⌝ }
 {
     if counts.len() <= 32 {

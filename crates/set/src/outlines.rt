@@ -6,12 +6,11 @@ ghost use lib.Seq.{sets};
 ghost use Rattle.boundary.specs.Folds.{run, any};
 ghost use Rattle.boundary.specs.Outline.{vertices, edges};
 ghost use Rattle.geometry.specs.Polygon.{boundsOf, containsOf};
-ghost use Rattle.index.specs.Entries.{boxNumbers};
+ghost use Rattle.entries.specs.Entries.{boxNumbers};
 ghost use Rattle.set.specs.Set.{startOf, outlineAt, setBoxes};
 ghost use Rattle.set.specs.Answers.{Starts};
 use boundary::Point;
 use geometry::polygon;
-use index::entries;
 
 // How many vertices stand before each outline.
 pub fn put_starts(counts: &[u32], starts: &mut [u32])

@@ -7,16 +7,18 @@ ghost use lib.Dec.{eqb, ltb};
 ghost use lib.ListN.{length, take, drop};
 ghost use Rattle.boundary.specs.Folds.{any};
 ghost use Rattle.set.specs.Set.{startOf, outlinesOf};
-ghost use Rattle.set.specs.Tests.{sizesTested, setTested, pointTestedIn, setQueryTested};
+ghost use Rattle.set.specs.Tests.{sizesTested, setTested, setQueryTested};
 ghost use Rattle.set.specs.OnePass.{firstFailed, leastFailed, testAt, rankOf};
+use accept::Refusal;
+use accept::Test;
+use accept::refusals::number_of;
+use accept::refusals::point_tested;
+use accept::refusals::room_tested;
+use accept::refusals::sign_tested;
+use accept::refusals::test_of;
+use accept::refusals::values_tested;
 use boundary::Point;
-use geometry::Refusal;
-use geometry::Verdict;
-use geometry::refusals::in_field;
-use geometry::refusals::number_of;
-use geometry::refusals::sign_tested;
-use geometry::refusals::values_tested;
-use index::Test;
+use index::refusals::short_index;
 
 // Whether the counts add up to n; no sum is made that could be too large.
 fn adds_up(counts: &[u32], n: usize) -> bool
@@ -56,12 +58,12 @@ fn is_off(few: bool, n: u32) -> bool
 }
 
 // The number of what the tests say of an outline, 10 where it passes.
-fn rank_of(t: Verdict) -> u32
+fn rank_of(t: Test) -> u32
     ensures { λ r. ⌜ r ≡ rankOf t ⌝ }
 {
     match t {
-        Verdict::Passed(_) => 10,
-        Verdict::Failed(r) => number_of(r),
+        Test::Passed => 10,
+        Test::Failed(r) => number_of(r),
     }
 }
 
@@ -70,7 +72,7 @@ fn rank_in(v: &[f64], at: usize, end: usize) -> u32
     requires { ⌜ (at ≤ end) × (end ≤ length (now v)) ⌝ }
     ensures { λ r. ⌜ r ≡ firstFailed (take (end - at) (drop at (now (v .entry)))) ⌝ }
 {
-    rank_of(sign_tested(values_tested(&v[at..end])))
+    rank_of(test_of(sign_tested(values_tested(&v[at..end]))))
 }
 
 fn lesser(a: u32, b: u32) -> u32
@@ -136,22 +138,6 @@ pub fn set_tested(v: &[f64], counts: &[u32]) -> Test
     Test::Failed(Refusal::BadCounts)
 }
 
-// Test 10, after those of the set.
-fn point_tested(p: Point, t: Test) -> Test
-    ensures { λ r. ⌜ r ≡ pointTestedIn p t ⌝ }
-{
-    match t {
-        Test::Passed => {
-            if in_field(p.x) & in_field(p.y) {
-                Test::Passed
-            } else {
-                Test::Failed(Refusal::BadPoint)
-            }
-        }
-        Test::Failed(r) => Test::Failed(r),
-    }
-}
-
 // The tests of a query, 13 the last.
 pub fn query_tested(
     v: &[f64],
@@ -164,5 +150,5 @@ pub fn query_tested(
     ensures { λ r. ⌜ r ≡ setQueryTested (now (v .entry)) (now (counts .entry)) p corners links items ⌝ }
 {
     let t = point_tested(p, set_tested(v, counts));
-    index::refusals::room_tested(index::refusals::short_index(corners, links, items), t)
+    room_tested(short_index(corners, links, items), t)
 }

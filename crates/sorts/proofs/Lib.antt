@@ -8,3 +8,5 @@ pub mod Order
 pub mod SortLaws
 -- Sorting twice, sorting what is in order, and sorting what a pivot parts.
 pub mod PartLaws
+-- The parts that a selection leaves are, as sets, the halves by the sort.
+pub mod SelectLaws

@@ -1,15 +1,16 @@
 -- The order by key and then by number is total and transitive, whatever the keys. Assumes nothing.
-use mathlib.Core.Path.{_≡_, refl, sym, _∙_}
+use mathlib.Core.Path.{_≡_, refl, sym, subst, _∙_}
 use mathlib.Core.Bool.{Bool, true, false, not, _&&_, _||_, cond, false≢true, true≢false}
 use mathlib.Core.Logic.{_⊎_, inl, inr}
-use Prim.Native.Nat.{ℕ, _≤_, _<_}
+use Prim.Native.Nat.{ℕ, _*_, _≤_, _<_, zero-le}
 use native.Mathlib.Omega.{arith}
 use lib.Dec.{T, leb}
-use lib.Ieee.{Float, nan, inf, fin, lt, eq, le, isNan}
+use lib.Ieee.{Float, nan, inf, fin, up, down, lt, eq, le, isNan}
 use lib.Ieee.Bits.{is-true}
-use borrow.Author.Tests.{le-leb, leb-true, leb-false}
+use borrow.Author.Tests.{le-leb, leb-true, leb-false, ltb-true}
+use Rattle.number.specs.Exact.{zeroᶠ}
 use Rattle.number.specs.Signs.{signBit}
-use Rattle.number.proofs.OrderLaws.{le-not-below, le-through, not-below, below-le, level-le}
+use Rattle.number.proofs.OrderLaws.{le-not-below, le-through, not-below, below-le, level-le, below-through}
 use Rattle.sorts.specs.Keys.{totalLess, goesBy, goes, ahead}
 
 -- ---- of floats that are no NaN
@@ -195,3 +196,49 @@ less-of x y e = rw e
 pub goes-more : (x y : Float) (a b : ℕ) → lt y x ≡ true → false ≡ goesBy x y a b
 unfolding goesBy
 goes-more x y a b e = rw (less-asym y x (less-of y x e), less-of y x e)
+
+-- ---- a pivot that is the number 0 with a key other than zero: before it goes just what has a lesser key
+pub above-sign : (x : Float) → lt zeroᶠ x ≡ true → signBit x ≡ false
+unfolding lt signBit
+above-sign nan h = refl
+above-sign (inf true) h = absurd (false≢true h)
+above-sign (inf false) h = refl
+above-sign (fin true m e) h = absurd (false≢true h)
+above-sign (fin false m e) h = refl
+
+under-sign : (x : Float) → lt x zeroᶠ ≡ true → signBit x ≡ true
+unfolding lt signBit
+under-sign nan h = absurd (false≢true h)
+under-sign (inf true) h = refl
+under-sign (inf false) h = absurd (false≢true h)
+under-sign (fin true m e) h = refl
+under-sign (fin false m e) h = absurd (omega (arith, ltb-true (m * up e * 1) (0 * 1 * down e) h))
+
+unequal-number : (v : Float) → (lt v zeroᶠ || lt zeroᶠ v) ≡ true → Number v
+unfolding lt isNan
+unequal-number nan h = absurd (false≢true h)
+unequal-number (inf s) h = tt
+unequal-number (fin s m e) h = tt
+
+-- what is no less than a key other than zero, and has the sign, is no zero: the key has the sign too
+unequal-level : (v k : Float) → (lt v zeroᶠ || lt zeroᶠ v) ≡ true → T (le v k) → signBit k ≡ true → signBit v ≡ true
+unequal-level v k h l s = go (lt v zeroᶠ) refl h
+  where
+    go : (b : Bool) → lt v zeroᶠ ≡ b → (b || lt zeroᶠ v) ≡ true → signBit v ≡ true
+    go true e z = under-sign v e
+    go false e z = absurd (false≢true (sym (above-sign k (is-true (lt zeroᶠ k) (below-through zeroᶠ v k (subst T (sym z) tt) l))) ∙ s))
+
+pub goes-plain : (v k : Float) (x : ℕ) → (lt v zeroᶠ || lt zeroᶠ v) ≡ true → lt k v ≡ false → true ≡ goesBy v k 0 x
+unfolding goesBy
+goes-plain v k x h e = rw (not-less (nan-or k)) (first (totalLess v k))
+  where
+    not-less : (k ≡ nan) ⊎ Number k → totalLess k v ≡ false
+    not-less (inl q) = nan-last k v q
+    not-less (inr q) =
+        let p = unequal-number v h in
+        let l = not-below k v q p e in
+        not-from v k p (record { least = l; level = λ _ s. unequal-level v k h l s })
+
+    first : (b : Bool) → true ≡ cond b true (leb 0 x)
+    first true = refl
+    first false = sym (le-leb 0 x zero-le)

@@ -57,6 +57,23 @@ module _ (le : ℕ → ℕ → Bool) where
   each-sort P [] e = tt
   each-sort P (x ∷ xs) e = each-insert P x (sort le xs) (e .0) (each-sort P xs (e .1))
 
+  -- what goes before all of a second list is put into the first
+  insert-front : (x : ℕ) (ss ts : List ℕ) → Each (λ t. le x t ≡ true) ts → insert le x (ss ++ ts) ≡ insert le x ss ++ ts
+  unfolding insert Each
+  insert-front x [] [] e = refl
+  insert-front x [] (t ∷ ts) e = rw (e .0)
+  insert-front x (s ∷ ss) ts e = go (le x s) (insert-front x ss ts e)
+    where
+      go : (b : Bool) → insert le x (ss ++ ts) ≡ insert le x ss ++ ts → cond b (x ∷ s ∷ (ss ++ ts)) (s ∷ insert le x (ss ++ ts)) ≡ cond b (x ∷ s ∷ ss) (s ∷ insert le x ss) ++ ts
+      go true ih = refl
+      go false ih = ap (λ (l : List ℕ). s ∷ l) ih
+
+  -- a list none of whose members goes after one of a second
+  pub sort-apart : (al bl : List ℕ) → Each (λ a. Each (λ b. le a b ≡ true) bl) al → sort le (al ++ bl) ≡ sort le al ++ sort le bl
+  unfolding sort Each
+  sort-apart [] bl e = refl
+  sort-apart (a ∷ al) bl e = ap (insert le a) (sort-apart al bl (e .1)) ∙ insert-front a (sort le al) (sort le bl) (each-sort (λ b. le a b ≡ true) bl (e .0))
+
   -- ---- what is in order
   pub sort-sorted : (xs : List ℕ) → Sorted le xs → sort le xs ≡ xs
   unfolding Sorted Each sort insert
@@ -225,7 +242,7 @@ module _ (le : ℕ → ℕ → Bool)
     sort-again g [] = refl
     sort-again g (x ∷ xs) = sort-insert g x (sort g xs) ∙ ap (insert le x) (sort-again g xs)
 
-    sort-inside : (al : List ℕ) (x : ℕ) (bl : List ℕ) → sort le (al ++ (x ∷ bl)) ≡ insert le x (sort le (al ++ bl))
+    pub sort-inside : (al : List ℕ) (x : ℕ) (bl : List ℕ) → sort le (al ++ (x ∷ bl)) ≡ insert le x (sort le (al ++ bl))
     unfolding sort
     sort-inside [] x bl = refl
     sort-inside (a ∷ al) x bl = ap (insert le a) (sort-inside al x bl) ∙ insert-swap a x (sort le (al ++ bl))
@@ -242,46 +259,21 @@ module _ (le : ℕ → ℕ → Bool)
 
     -- ---- where all that pass a test go before all others
     module _ (p : ℕ → Bool) (apart : (a b : ℕ) → p a ≡ true → p b ≡ false → le a b ≡ true) where
-      front : (x : ℕ) (ss ts : List ℕ) → p x ≡ true → Each (λ t. not (p t) ≡ true) ts → insert le x (ss ++ ts) ≡ insert le x ss ++ ts
-      unfolding insert Each
-      front x [] [] h e = refl
-      front x [] (t ∷ ts) h e = rw (apart x t h (is-not (p t) (e .0)))
+      sort-parts : (xs : List ℕ) → sort le xs ≡ sort le (keep p xs) ++ sort le (others p xs)
+      sort-parts xs = sym (sort-parted p xs) ∙ sort-apart le (keep p xs) (others p xs) (each-all (keep p xs) (λ a h. each-all (others p xs) (λ b k. apart a b h (is-not (p b) k)) (each-kept (λ x. not (p x)) xs)) (each-kept p xs))
         where
           is-not : (b : Bool) → not b ≡ true → b ≡ false
           is-not true e = absurd (false≢true e)
           is-not false e = refl
-      front x (s ∷ ss) ts h e = go (le x s) (front x ss ts h e)
-        where
-          go : (b : Bool) → insert le x (ss ++ ts) ≡ insert le x ss ++ ts → cond b (x ∷ s ∷ (ss ++ ts)) (s ∷ insert le x (ss ++ ts)) ≡ cond b (x ∷ s ∷ ss) (s ∷ insert le x ss) ++ ts
-          go true ih = refl
-          go false ih = ap (λ (l : List ℕ). s ∷ l) ih
-
-      back : (x : ℕ) (ss ts : List ℕ) → p x ≡ false → Each (λ s. p s ≡ true) ss → insert le x (ss ++ ts) ≡ ss ++ insert le x ts
-      unfolding insert Each
-      back x [] ts h e = refl
-      back x (s ∷ ss) ts h e = go (le x s) refl (back x ss ts h (e .1))
-        where
-          go : (b : Bool) → le x s ≡ b → insert le x (ss ++ ts) ≡ ss ++ insert le x ts → cond b (x ∷ s ∷ (ss ++ ts)) (s ∷ insert le x (ss ++ ts)) ≡ s ∷ (ss ++ insert le x ts)
-          go true k ih = absurd (false≢true (sym h ∙ ap p (antisym x s k (apart s x (e .0) h)) ∙ e .0))
-          go false k ih = ap (λ (l : List ℕ). s ∷ l) ih
-
-      sort-parts : (xs : List ℕ) → sort le xs ≡ sort le (keep p xs) ++ sort le (others p xs)
-      unfolding sort keep
-      sort-parts [] = refl
-      sort-parts (x ∷ xs) = ap (insert le x) (sort-parts xs) ∙ go (p x) refl
-        where
-          go : (b : Bool) → p x ≡ b → insert le x (sort le (keep p xs) ++ sort le (others p xs)) ≡ sort le (cond b (x ∷ keep p xs) (keep p xs)) ++ sort le (cond (not b) (x ∷ others p xs) (others p xs))
-          go true h = front x (sort le (keep p xs)) (sort le (others p xs)) h (each-sort le (λ t. not (p t) ≡ true) (others p xs) (each-kept (λ t. not (p t)) xs))
-          go false h = back x (sort le (keep p xs)) (sort le (others p xs)) h (each-sort le (λ s. p s ≡ true) (keep p xs) (each-kept p xs))
 
 -- ---- by number
-leb-total : (a b : ℕ) → leb a b ≡ false → leb b a ≡ true
+pub leb-total : (a b : ℕ) → leb a b ≡ false → leb b a ≡ true
 leb-total a b e = let l : b < a = leb-false a b e in le-leb b a (omega arith)
 
-leb-trans : (a b c : ℕ) → leb a b ≡ true → leb b c ≡ true → leb a c ≡ true
+pub leb-trans : (a b c : ℕ) → leb a b ≡ true → leb b c ≡ true → leb a c ≡ true
 leb-trans a b c e f = let l : a ≤ b = leb-true a b e in let m : b ≤ c = leb-true b c f in le-leb a c (omega arith)
 
-leb-antisym : (a b : ℕ) → leb a b ≡ true → leb b a ≡ true → a ≡ b
+pub leb-antisym : (a b : ℕ) → leb a b ≡ true → leb b a ≡ true → a ≡ b
 leb-antisym a b e f = let l : a ≤ b = leb-true a b e in let m : b ≤ a = leb-true b a f in omega arith
 
 pub ascend-again : (g : ℕ → ℕ → Bool) (xs : List ℕ) → sort leb (sort g xs) ≡ sort leb xs

@@ -73,3 +73,8 @@ times i (x ∷ xs) = cond (eqb x i) 1 0 + times i xs
 
 abbrev pub In : ℕ → List ℕ → Type 0
 In i xs = 0 < times i xs
+
+-- what the Rust's `select_nth_unstable_by` at the place m promises to leave of xs: the same members, and none of the first m goes after one of the others; it says nothing of the order inside the two parts
+pub record Selected (le : ℕ → ℕ → Bool) (m : ℕ) (xs ys : List ℕ) : Type 0 where
+  pub same : (i : ℕ) → times i ys ≡ times i xs
+  pub parted : Each (λ a. Each (λ b. le a b ≡ true) (drop m ys)) (take m ys)

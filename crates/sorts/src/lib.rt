@@ -135,10 +135,14 @@ pub fn sorted(keys: &[f64], s: &mut [u32], t: &mut [u32])
     joined(keys, s, m, t);
 }
 
-// Whether x, whose key is k, goes before the number t with the key v: 1 or 0.
+// Whether x, whose key is k, goes before the number t with the key v: 1 or 0. Before the number 0 with a key other
+// than zero go just those with lesser keys, so that this test, which does not depend on x, leaves one comparison.
 fn is_ahead(k: f64, x: u32, v: f64, t: u32) -> usize
     ensures { λ r. ⌜ r ≡ aheadBit v k t x ⌝ }
 {
+    if (t == 0) & ((v < 0.0) | (0.0 < v)) {
+        return if k < v { 1 } else { 0 };
+    }
     if (k < v) | (v < k) {
         return if k < v { 1 } else { 0 };
     }
@@ -156,8 +160,8 @@ fn dealt(keys: &[f64], v: f64, x: u32, s: &mut [u32], t: &mut [u32]) -> usize
     while i < s.len() {
         let y = at(s, i);
         let c = is_ahead(key(keys, y), y, v, x);
-        put(s, a, y);
-        put(t, i - a, y);
+        s[a] = y;
+        t[i - a] = y;
         a += c;
         i += 1;
     }

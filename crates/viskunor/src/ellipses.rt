@@ -1,9 +1,9 @@
 // Ellipses whose axes lie along x and y: the nearest point. A call gives its refusal's number, or 0, and
 // an answer in the fields that it is lent; a refused call puts zeros there.
 ghost use mathlib.Core.Path.{_≡_};
-ghost use Rattle.geometry.specs.Answers.{numberOf, awayOf};
-ghost use Rattle.geometry.specs.Ellipse.{ellipseAnswer};
-use crate::answers;
+ghost use Rattle.accept.specs.Answers.{numberOf, awayOf};
+ghost use Rattle.oval.specs.Ellipse.{ellipseAnswer};
+use accept::answers;
 use boundary::Point;
 
 #[no_mangle]
@@ -27,7 +27,7 @@ pub extern "C" fn vk_ellipse_nearest(
         x: centre_x,
         y: centre_y,
     };
-    let answer = geometry::ellipse::ellipse_nearest(c, semi_x, semi_y, Point { x: x, y: y });
+    let answer = oval::ellipse::ellipse_nearest(c, semi_x, semi_y, Point { x: x, y: y });
     let a = answers::away_of(answer);
     *nearest_x = a.v.x;
     *nearest_y = a.v.y;

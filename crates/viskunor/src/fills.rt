@@ -3,9 +3,9 @@
 // call leaves it as it was, but for refusal 14.
 ghost use mathlib.Core.Path.{_≡_};
 ghost use lib.ListN.{length};
-ghost use Rattle.geometry.specs.Answers.{numberOf, measureOf};
+ghost use Rattle.accept.specs.Answers.{numberOf, measureOf};
 ghost use Rattle.fill.specs.Answers.{fillAnswer, fillBuffer};
-use crate::answers;
+use accept::answers;
 use boundary::Bounds;
 use boundary::Point;
 

@@ -3,18 +3,14 @@
 // they were.
 ghost use mathlib.Core.Path.{_≡_};
 ghost use lib.ListN.{length};
-ghost use Rattle.number.specs.Exact.{zeroᶠ};
-ghost use Rattle.geometry.specs.Answers.{numberOf, toldOf};
-ghost use Rattle.index.specs.Tree.{indexOf};
-ghost use Rattle.index.specs.Answers.{writtenFor, buildAnswer, builtCorners, builtLinks, builtItems, builtNumber, nodesIn, itemsIn};
+ghost use Rattle.accept.specs.Answers.{numberOf, toldOf};
+ghost use Rattle.index.specs.Answers.{buildAnswer, builtCorners, builtLinks, builtItems, builtNumber, nodesIn, itemsIn};
 ghost use Rattle.records.specs.Records.{nodesAnswer, recordNodes, recordItems};
-ghost use Rattle.meeting.specs.Meeting.{meetingOf};
-ghost use Rattle.meeting.specs.Answers.{cellOf, meetingTested, meetingAnswer};
-ghost use Rattle.geometry.specs.Lists.{zeros};
-use crate::answers;
+ghost use Rattle.meeting.specs.Answers.{cellOf, meetingAnswer, meetingCorners, meetingLinks, meetingItems, meetingList};
+use accept::answers;
 use boundary::Bounds;
 use boundary::Point;
-use index::Node;
+use nodes::Node;
 
 #[no_mangle]
 pub extern "C" fn vk_index_build(
@@ -71,12 +67,12 @@ pub extern "C" fn vk_index_meeting(
     list: &mut [u32],
     count: &mut u32,
 ) -> u32
-    ensures { λ r. ⌜ (r ≡ numberOf (meetingAnswer (now (boxes .entry)) (cellOf «min_x» «min_y» «max_x» «max_y») (length (now (corners .entry))) (length (now (links .entry))) (length (now (items .entry))) (length (now (list .entry)))))
-        × (now (count .exit) ≡ toldOf (meetingAnswer (now (boxes .entry)) (cellOf «min_x» «min_y» «max_x» «max_y») (length (now (corners .entry))) (length (now (links .entry))) (length (now (items .entry))) (length (now (list .entry)))))
-        × (now (corners .exit) ≡ writtenFor (zeros zeroᶠ 2044) (now (corners .entry)) (meetingTested (now (boxes .entry)) (cellOf «min_x» «min_y» «max_x» «max_y») (length (now (corners .entry))) (length (now (links .entry))) (length (now (items .entry))) (length (now (list .entry)))))
-        × (now (links .exit) ≡ writtenFor (zeros 0 1022) (now (links .entry)) (meetingTested (now (boxes .entry)) (cellOf «min_x» «min_y» «max_x» «max_y») (length (now (corners .entry))) (length (now (links .entry))) (length (now (items .entry))) (length (now (list .entry)))))
-        × (now (items .exit) ≡ writtenFor (zeros 0 1024) (now (items .entry)) (meetingTested (now (boxes .entry)) (cellOf «min_x» «min_y» «max_x» «max_y») (length (now (corners .entry))) (length (now (links .entry))) (length (now (items .entry))) (length (now (list .entry)))))
-        × (now (list .exit) ≡ writtenFor (meetingOf (cellOf «min_x» «min_y» «max_x» «max_y») (indexOf (now (boxes .entry)))) (now (list .entry)) (meetingTested (now (boxes .entry)) (cellOf «min_x» «min_y» «max_x» «max_y») (length (now (corners .entry))) (length (now (links .entry))) (length (now (items .entry))) (length (now (list .entry))))) ⌝ }
+    ensures { λ r. ⌜ (r ≡ numberOf (meetingAnswer (now (boxes .entry)) (cellOf «min_x» «min_y» «max_x» «max_y») (now (corners .entry)) (now (links .entry)) (now (items .entry)) (now (list .entry))))
+        × (now (count .exit) ≡ toldOf (meetingAnswer (now (boxes .entry)) (cellOf «min_x» «min_y» «max_x» «max_y») (now (corners .entry)) (now (links .entry)) (now (items .entry)) (now (list .entry))))
+        × (now (corners .exit) ≡ meetingCorners (now (boxes .entry)) (cellOf «min_x» «min_y» «max_x» «max_y») (now (corners .entry)) (now (links .entry)) (now (items .entry)) (now (list .entry)))
+        × (now (links .exit) ≡ meetingLinks (now (boxes .entry)) (cellOf «min_x» «min_y» «max_x» «max_y») (now (corners .entry)) (now (links .entry)) (now (items .entry)) (now (list .entry)))
+        × (now (items .exit) ≡ meetingItems (now (boxes .entry)) (cellOf «min_x» «min_y» «max_x» «max_y») (now (corners .entry)) (now (links .entry)) (now (items .entry)) (now (list .entry)))
+        × (now (list .exit) ≡ meetingList (now (boxes .entry)) (cellOf «min_x» «min_y» «max_x» «max_y») (now (corners .entry)) (now (links .entry)) (now (items .entry)) (now (list .entry))) ⌝ }
 {
     let cell = Bounds {
         min: Point { x: min_x, y: min_y },

@@ -1,6 +1,5 @@
 // Every operation as a C host calls it. The work stands in the crates below; include/viskunor.h
 // declares these functions and says what they do in plain words.
-mod answers;
 pub mod ellipses;
 pub mod fills;
 pub mod indexes;

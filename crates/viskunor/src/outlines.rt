@@ -2,9 +2,10 @@
 // refusal's number, or 0, and an answer in the fields that it is lent; a refused call puts zeros there.
 ghost use mathlib.Core.Path.{_≡_};
 ghost use lib.ListN.{length};
-ghost use Rattle.geometry.specs.Answers.{numberOf, toldOf, measureOf, boxOf, awayOf, areaAnswer, perimeterAnswer, boundsAnswer, containsAnswer, locateAnswer, distanceAnswer};
+ghost use Rattle.accept.specs.Answers.{numberOf, toldOf, measureOf, boxOf, awayOf};
+ghost use Rattle.geometry.specs.Answers.{areaAnswer, perimeterAnswer, boundsAnswer, containsAnswer, locateAnswer, distanceAnswer};
 ghost use Rattle.geometry.specs.Making.{makeAnswer, madeList};
-use crate::answers;
+use accept::answers;
 use boundary::Point;
 
 #[no_mangle]

@@ -1,11 +1,11 @@
 // Queries over a set of outlines. A call gives its refusal's number, or 0, and an answer in the fields
 // that it is lent; a refused call puts zeros there and leaves the lent lists as they were.
 ghost use mathlib.Core.Path.{_≡_};
-ghost use Rattle.geometry.specs.Answers.{numberOf, toldOf};
+ghost use Rattle.accept.specs.Answers.{numberOf, toldOf};
 ghost use Rattle.set.specs.Answers.{anyAnswer, clearedCorners, clearedLinks, clearedItems};
 ghost use Rattle.nearest.specs.Nearest.{nearestNumber, foundIn, outlineIn, distanceIn};
 ghost use Rattle.nearest.specs.Answers.{nearestAnswer};
-use crate::answers;
+use accept::answers;
 use boundary::Point;
 
 #[no_mangle]
@@ -52,8 +52,9 @@ pub extern "C" fn vk_set_nearest(
         × (now (items .exit) ≡ clearedItems (now (vertices .entry)) (now (counts .entry)) (record { x = x; y = y }) (now (corners .entry)) (now (links .entry)) (now (items .entry))) ⌝ }
 {
     let answer = nearest::nearest_to(vertices, counts, Point { x, y }, corners, links, items);
-    *found = nearest::answers::found_of(answer);
-    *outline = nearest::answers::outline_of(answer);
-    *distance = nearest::answers::distance_of(answer);
-    nearest::answers::number_of(answer)
+    let told = nearest::answers::fields(answer);
+    *found = told.found;
+    *outline = told.outline;
+    *distance = told.distance;
+    told.number
 }

@@ -1,6 +1,7 @@
 -- `index::new` meets its contract. Assumes nothing.
 use Rattle.index.proofs.GrowLaws.{length-index-items, index-nodes, accepted}
-use Rattle.index.specs.Answers.{builtFor, writtenFor, buildAnswer, builtCorners, builtLinks, builtItems}
+use Rattle.accept.specs.Lists.{writtenFor}
+use Rattle.index.specs.Answers.{builtFor, buildAnswer, builtCorners, builtLinks, builtItems}
 use native.Mathlib.Omega.{arith}
 use mathlib.Core.Path.{sym, _∙_}
 use borrow.Author.Needs.{needs}
@@ -13,15 +14,15 @@ build-tested-requires c κs = search needs
 enum-told : tie.Need-enum-told
 enum-told c = search needs
 
-grow-requires : tie.Need-grow-requires
-grow-requires c κs = accepted _ _ _ _ (sym (c .before .before .before .before .before .build-tested .ensures) ∙ c .before .before .before .enum-told .given .1)
+grow-or-leaf-requires : tie.Need-grow-or-leaf-requires
+grow-or-leaf-requires c κs = accepted _ _ _ _ (sym (c .before .before .before .before .before .build-tested .ensures) ∙ c .before .before .before .enum-told .given .1)
 
 cast-t18 : tie.Need-cast-t18
 cast-t18 c =
     let A = accepted _ _ _ _ (sym (c .before .before .before .before .before .before .before .before .before .before .before .before .build-tested .ensures) ∙ c .before .before .before .before .before .before .before .before .before .before .enum-told .given .1) in
     let s = A .size in
     let k = index-nodes (c .before .before .before .before .before .before .before .before .before .before .before .before .before .before .before .before .before .args .boxes .now) (omega arith) in
-    let n = c .before .before .before .before .before .before .grow .ensures .nodes in
+    let n = c .before .before .before .before .before .before .grow-or-leaf .ensures .nodes in
     search needs
 
 cast-t21 : tie.Need-cast-t21
@@ -46,7 +47,7 @@ returns : tie.Need-returns
 unfolding buildAnswer builtCorners builtLinks builtItems builtFor writtenFor
 returns c =
     let e = sym (c .before .before .before .before .before .before .before .before .before .before .before .before .build-tested .ensures) ∙ c .before .before .before .before .before .before .before .before .before .before .enum-told .given .1 in
-    let g = c .before .before .before .before .before .before .grow .ensures in
+    let g = c .before .before .before .before .before .before .grow-or-leaf .ensures in
     (rw (e, g .nodes, length-index-items), rw e (g .corners), rw e (g .links), rw e (g .items))
 
 returns-2 : tie.Need-returns-2
@@ -61,7 +62,7 @@ new-spec =
     (tie.spec
     build-tested-requires
     enum-told
-    grow-requires
+    grow-or-leaf-requires
     cast-t18
     cast-t21
     enum-known-t

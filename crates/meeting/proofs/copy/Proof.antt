@@ -1,6 +1,6 @@
 -- `meeting::copy` meets its contract: the items so far are stored. Assumes nothing.
 use Rattle.meeting.proofs.WalkLaws.{no-run, next-item}
-use Rattle.index.specs.Layout.{itemAt}
+use Rattle.nodes.specs.Layout.{itemAt}
 use Rattle.meeting.specs.Walk.{Put}
 use Rattle.boundary.specs.Folds.{run}
 use lib.ListN.{length}

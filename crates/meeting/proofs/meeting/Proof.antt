@@ -1,9 +1,10 @@
 -- `meeting::meeting` meets its contract. Assumes nothing.
 use Rattle.meeting.proofs.MeetingLaws.{length-meeting, meeting-accepted}
-use Rattle.meeting.specs.Answers.{toldFor, meetingAnswer}
+use Rattle.meeting.specs.Answers.{meetingAnswer, meetingCorners, meetingLinks, meetingItems, meetingList}
 use Rattle.index.proofs.GrowLaws.{length-index-items}
-use Rattle.index.specs.Tree.{indexOf}
-use Rattle.index.specs.Answers.{writtenFor}
+use Rattle.splits.specs.Tree.{indexOf}
+use Rattle.accept.specs.Answers.{answerFor}
+use Rattle.accept.specs.Lists.{writtenFor}
 use mathlib.Core.Path.{sym, _∙_}
 use borrow.Author.Needs.{needs}
 use Rattle.meeting.proofs.meeting.Statement.{statement}
@@ -43,14 +44,14 @@ same-length-4 : tie.Need-same-length-4
 same-length-4 c = search needs
 
 returns : tie.Need-returns
-unfolding meetingAnswer toldFor writtenFor
+unfolding meetingAnswer answerFor meetingCorners meetingLinks meetingItems meetingList writtenFor
 returns c =
     let e = sym (c .before .before .before .before .before .before .before .before .before .before .before .before .before .before .before .tested .ensures) ∙ c .before .before .before .before .before .before .before .before .before .before .before .before .before .enum-told .given .1 in
     let l = c .before .before .before .before .before .before .before .before .listed .ensures in
     (rw (e, l .count), rw e (l .corners), rw e (l .links), rw e (l .items), rw e (l .list))
 
 returns-2 : tie.Need-returns-2
-unfolding meetingAnswer toldFor writtenFor
+unfolding meetingAnswer answerFor meetingCorners meetingLinks meetingItems meetingList writtenFor
 returns-2 c =
     let e = sym (c .before .before .before .tested .ensures) ∙ c .before .t .given .1 in
     (rw e, rw e, rw e, rw e, rw e)

@@ -1,19 +1,20 @@
 -- `middle::seek` meets its contract. The measure is the number of rounds. Assumes nothing.
-use Prim.Native.Nat.{ℕ, _<_}
 use mathlib.Core.Path.{_≡_, sym}
 use mathlib.Core.List.{List}
 use lib.ListN.{length}
 use lib.Seq.{length-take-le}
 use native.Mathlib.Omega.{arith}
 use borrow.Author.Needs.{needs}
+use Prim.Native.Nat.{ℕ, _<_}
 use borrow.Fn.Kinds.{In}
 use borrow.Fn.PlainCycle.{Measures, is, falls, and}
 use Rattle.middle.proofs.seek.Reads as seek
 use Rattle.middle.proofs.seek.Kinds as seek-kinds
 use Rattle.middle.proofs.+seek.Lts-seek as seek-lts
-use Rattle.middle.proofs.of_rank.Reads as of-rank-reads
+use Rattle.middle.proofs.few.Reads as few-reads
+use Rattle.middle.proofs.of_few.Reads as of-few-reads
 use Rattle.middle.proofs.parted_in.Reads as parted-in-reads
-use Rattle.middle.proofs.same.Reads as same-reads
+use Rattle.middle.proofs.reached.Reads as reached-reads
 use Rattle.middle.proofs.tried.Reads as tried-reads
 use Rattle.middle.proofs.+seek.{statement}
 use Rattle.middle.proofs.+seek.Tie.{close}
@@ -27,326 +28,387 @@ seek-at t = and 2 seek-kinds.ps (is 2 seek-kinds.ps μ-seek t) seek.Pre
 abbrev seek-below : ℕ → In 2 seek-kinds.ps
 seek-below t = and 2 seek-kinds.ps (falls 2 seek-kinds.ps _<_ μ-seek t) seek.Pre
 
-seek-of-rank-requires : (t : ℕ) → seek-lts.Need-of-rank-requires (
-  of-rank-reads.Asked,
-  of-rank-reads.Learnt,
+seek-few-requires : (t : ℕ) → seek-lts.Need-few-requires (
+  few-reads.Asked,
+  few-reads.Learnt,
+  of-few-reads.Asked,
+  of-few-reads.Learnt,
   tried-reads.Asked,
   tried-reads.Learnt,
   parted-in-reads.Asked,
   parted-in-reads.Learnt,
   seek-below t,
   seek.Post,
-  same-reads.Asked,
-  same-reads.Learnt,
+  reached-reads.Asked,
+  reached-reads.Learnt,
 ) (seek-at t) seek.Post
-seek-of-rank-requires t c κs = search needs
+seek-few-requires t c κs = search needs
+
+seek-of-few-requires : (t : ℕ) → seek-lts.Need-of-few-requires (
+  few-reads.Asked,
+  few-reads.Learnt,
+  of-few-reads.Asked,
+  of-few-reads.Learnt,
+  tried-reads.Asked,
+  tried-reads.Learnt,
+  parted-in-reads.Asked,
+  parted-in-reads.Learnt,
+  seek-below t,
+  seek.Post,
+  reached-reads.Asked,
+  reached-reads.Learnt,
+) (seek-at t) seek.Post
+seek-of-few-requires t c κs = search needs
 
 seek-same-length : (t : ℕ) → seek-lts.Need-same-length (
-  of-rank-reads.Asked,
-  of-rank-reads.Learnt,
+  few-reads.Asked,
+  few-reads.Learnt,
+  of-few-reads.Asked,
+  of-few-reads.Learnt,
   tried-reads.Asked,
   tried-reads.Learnt,
   parted-in-reads.Asked,
   parted-in-reads.Learnt,
   seek-below t,
   seek.Post,
-  same-reads.Asked,
-  same-reads.Learnt,
+  reached-reads.Asked,
+  reached-reads.Learnt,
 ) (seek-at t) seek.Post
 seek-same-length t c = search needs
 
 seek-returns : (t : ℕ) → seek-lts.Need-returns (
-  of-rank-reads.Asked,
-  of-rank-reads.Learnt,
+  few-reads.Asked,
+  few-reads.Learnt,
+  of-few-reads.Asked,
+  of-few-reads.Learnt,
   tried-reads.Asked,
   tried-reads.Learnt,
   parted-in-reads.Asked,
   parted-in-reads.Learnt,
   seek-below t,
   seek.Post,
-  same-reads.Asked,
-  same-reads.Learnt,
+  reached-reads.Asked,
+  reached-reads.Learnt,
 ) (seek-at t) seek.Post
 seek-returns t c = search needs
 
 seek-returns-2 : (t : ℕ) → seek-lts.Need-returns-2 (
-  of-rank-reads.Asked,
-  of-rank-reads.Learnt,
+  few-reads.Asked,
+  few-reads.Learnt,
+  of-few-reads.Asked,
+  of-few-reads.Learnt,
   tried-reads.Asked,
   tried-reads.Learnt,
   parted-in-reads.Asked,
   parted-in-reads.Learnt,
   seek-below t,
   seek.Post,
-  same-reads.Asked,
-  same-reads.Learnt,
+  reached-reads.Asked,
+  reached-reads.Learnt,
 ) (seek-at t) seek.Post
 seek-returns-2 t c = search needs
 
 seek-tried-requires : (t : ℕ) → seek-lts.Need-tried-requires (
-  of-rank-reads.Asked,
-  of-rank-reads.Learnt,
+  few-reads.Asked,
+  few-reads.Learnt,
+  of-few-reads.Asked,
+  of-few-reads.Learnt,
   tried-reads.Asked,
   tried-reads.Learnt,
   parted-in-reads.Asked,
   parted-in-reads.Learnt,
   seek-below t,
   seek.Post,
-  same-reads.Asked,
-  same-reads.Learnt,
+  reached-reads.Asked,
+  reached-reads.Learnt,
 ) (seek-at t) seek.Post
 seek-tried-requires t c κs = search needs
 
 seek-parted-in-requires : (t : ℕ) → seek-lts.Need-parted-in-requires (
-  of-rank-reads.Asked,
-  of-rank-reads.Learnt,
+  few-reads.Asked,
+  few-reads.Learnt,
+  of-few-reads.Asked,
+  of-few-reads.Learnt,
   tried-reads.Asked,
   tried-reads.Learnt,
   parted-in-reads.Asked,
   parted-in-reads.Learnt,
   seek-below t,
   seek.Post,
-  same-reads.Asked,
-  same-reads.Learnt,
+  reached-reads.Asked,
+  reached-reads.Learnt,
 ) (seek-at t) seek.Post
 seek-parted-in-requires t c κs = search needs
 
 seek-slice-relend-prefix-seek : (t : ℕ) → seek-lts.Need-slice-relend-prefix-seek (
-  of-rank-reads.Asked,
-  of-rank-reads.Learnt,
+  few-reads.Asked,
+  few-reads.Learnt,
+  of-few-reads.Asked,
+  of-few-reads.Learnt,
   tried-reads.Asked,
   tried-reads.Learnt,
   parted-in-reads.Asked,
   parted-in-reads.Learnt,
   seek-below t,
   seek.Post,
-  same-reads.Asked,
-  same-reads.Learnt,
+  reached-reads.Asked,
+  reached-reads.Learnt,
 ) (seek-at t) seek.Post
 seek-slice-relend-prefix-seek t c = search needs
 
 seek-slice-aggregate-seek : (t : ℕ) → seek-lts.Need-slice-aggregate-seek (
-  of-rank-reads.Asked,
-  of-rank-reads.Learnt,
+  few-reads.Asked,
+  few-reads.Learnt,
+  of-few-reads.Asked,
+  of-few-reads.Learnt,
   tried-reads.Asked,
   tried-reads.Learnt,
   parted-in-reads.Asked,
   parted-in-reads.Learnt,
   seek-below t,
   seek.Post,
-  same-reads.Asked,
-  same-reads.Learnt,
+  reached-reads.Asked,
+  reached-reads.Learnt,
 ) (seek-at t) seek.Post
 seek-slice-aggregate-seek t c =
     let S : List ℕ = c .before .before .before .before .parted-in .last .1 .1 .0 in
-    let k : length S ≡ length (c .before .before .before .before .before .before .before .before .before .before .before .before .args .part .now) = c .before .before .before .before .parted-in .kept .1 .1 .0 in
+    let k : length S ≡ length (c .before .before .before .before .before .before .before .before .before .before .before .before .before .args .part .now) = c .before .before .before .before .parted-in .kept .1 .1 .0 in
     let r = c .before .before .before .before .parted-in .ensures in
     sym (length-take-le _ S (omega arith))
 
 seek-seek-requires : (t : ℕ) → seek-lts.Need-seek-requires (
-  of-rank-reads.Asked,
-  of-rank-reads.Learnt,
+  few-reads.Asked,
+  few-reads.Learnt,
+  of-few-reads.Asked,
+  of-few-reads.Learnt,
   tried-reads.Asked,
   tried-reads.Learnt,
   parted-in-reads.Asked,
   parted-in-reads.Learnt,
   seek-below t,
   seek.Post,
-  same-reads.Asked,
-  same-reads.Learnt,
+  reached-reads.Asked,
+  reached-reads.Learnt,
 ) (seek-at t) seek.Post
 seek-seek-requires t c κs =
-    let e : c .before .before .before .before .before .before .before .before .before .before .before .before .args .rounds ≡ t = c .before .before .before .before .before .before .before .before .before .before .before .before .pre .0 in
+    let e : c .before .before .before .before .before .before .before .before .before .before .before .before .before .args .rounds ≡ t = c .before .before .before .before .before .before .before .before .before .before .before .before .before .pre .0 in
     let h = c .before .before .before .before .before .before .before .before .if2 .left in
     (omega arith, tt)
 
 seek-same-length-2 : (t : ℕ) → seek-lts.Need-same-length-2 (
-  of-rank-reads.Asked,
-  of-rank-reads.Learnt,
+  few-reads.Asked,
+  few-reads.Learnt,
+  of-few-reads.Asked,
+  of-few-reads.Learnt,
   tried-reads.Asked,
   tried-reads.Learnt,
   parted-in-reads.Asked,
   parted-in-reads.Learnt,
   seek-below t,
   seek.Post,
-  same-reads.Asked,
-  same-reads.Learnt,
+  reached-reads.Asked,
+  reached-reads.Learnt,
 ) (seek-at t) seek.Post
 seek-same-length-2 t c = search needs
 
 seek-returns-3 : (t : ℕ) → seek-lts.Need-returns-3 (
-  of-rank-reads.Asked,
-  of-rank-reads.Learnt,
+  few-reads.Asked,
+  few-reads.Learnt,
+  of-few-reads.Asked,
+  of-few-reads.Learnt,
   tried-reads.Asked,
   tried-reads.Learnt,
   parted-in-reads.Asked,
   parted-in-reads.Learnt,
   seek-below t,
   seek.Post,
-  same-reads.Asked,
-  same-reads.Learnt,
+  reached-reads.Asked,
+  reached-reads.Learnt,
 ) (seek-at t) seek.Post
 seek-returns-3 t c = search needs
 
-seek-same-requires : (t : ℕ) → seek-lts.Need-same-requires (
-  of-rank-reads.Asked,
-  of-rank-reads.Learnt,
+seek-reached-requires : (t : ℕ) → seek-lts.Need-reached-requires (
+  few-reads.Asked,
+  few-reads.Learnt,
+  of-few-reads.Asked,
+  of-few-reads.Learnt,
   tried-reads.Asked,
   tried-reads.Learnt,
   parted-in-reads.Asked,
   parted-in-reads.Learnt,
   seek-below t,
   seek.Post,
-  same-reads.Asked,
-  same-reads.Learnt,
+  reached-reads.Asked,
+  reached-reads.Learnt,
 ) (seek-at t) seek.Post
-seek-same-requires t c κs = search needs
+seek-reached-requires t c κs = search needs
 
 seek-same-length-3 : (t : ℕ) → seek-lts.Need-same-length-3 (
-  of-rank-reads.Asked,
-  of-rank-reads.Learnt,
+  few-reads.Asked,
+  few-reads.Learnt,
+  of-few-reads.Asked,
+  of-few-reads.Learnt,
   tried-reads.Asked,
   tried-reads.Learnt,
   parted-in-reads.Asked,
   parted-in-reads.Learnt,
   seek-below t,
   seek.Post,
-  same-reads.Asked,
-  same-reads.Learnt,
+  reached-reads.Asked,
+  reached-reads.Learnt,
 ) (seek-at t) seek.Post
 seek-same-length-3 t c = search needs
 
 seek-returns-4 : (t : ℕ) → seek-lts.Need-returns-4 (
-  of-rank-reads.Asked,
-  of-rank-reads.Learnt,
+  few-reads.Asked,
+  few-reads.Learnt,
+  of-few-reads.Asked,
+  of-few-reads.Learnt,
   tried-reads.Asked,
   tried-reads.Learnt,
   parted-in-reads.Asked,
   parted-in-reads.Learnt,
   seek-below t,
   seek.Post,
-  same-reads.Asked,
-  same-reads.Learnt,
+  reached-reads.Asked,
+  reached-reads.Learnt,
 ) (seek-at t) seek.Post
 seek-returns-4 t c = search needs
 
 seek-mul-seek : (t : ℕ) → seek-lts.Need-mul-seek (
-  of-rank-reads.Asked,
-  of-rank-reads.Learnt,
+  few-reads.Asked,
+  few-reads.Learnt,
+  of-few-reads.Asked,
+  of-few-reads.Learnt,
   tried-reads.Asked,
   tried-reads.Learnt,
   parted-in-reads.Asked,
   parted-in-reads.Learnt,
   seek-below t,
   seek.Post,
-  same-reads.Asked,
-  same-reads.Learnt,
+  reached-reads.Asked,
+  reached-reads.Learnt,
 ) (seek-at t) seek.Post
 seek-mul-seek t c = search needs
 
 seek-sub-seek : (t : ℕ) → seek-lts.Need-sub-seek (
-  of-rank-reads.Asked,
-  of-rank-reads.Learnt,
+  few-reads.Asked,
+  few-reads.Learnt,
+  of-few-reads.Asked,
+  of-few-reads.Learnt,
   tried-reads.Asked,
   tried-reads.Learnt,
   parted-in-reads.Asked,
   parted-in-reads.Learnt,
   seek-below t,
   seek.Post,
-  same-reads.Asked,
-  same-reads.Learnt,
+  reached-reads.Asked,
+  reached-reads.Learnt,
 ) (seek-at t) seek.Post
 seek-sub-seek t c = search needs
 
 seek-part-seek-start : (t : ℕ) → seek-lts.Need-part-seek-start (
-  of-rank-reads.Asked,
-  of-rank-reads.Learnt,
+  few-reads.Asked,
+  few-reads.Learnt,
+  of-few-reads.Asked,
+  of-few-reads.Learnt,
   tried-reads.Asked,
   tried-reads.Learnt,
   parted-in-reads.Asked,
   parted-in-reads.Learnt,
   seek-below t,
   seek.Post,
-  same-reads.Asked,
-  same-reads.Learnt,
+  reached-reads.Asked,
+  reached-reads.Learnt,
 ) (seek-at t) seek.Post
 seek-part-seek-start t c = search needs
 
 seek-part-seek-end : (t : ℕ) → seek-lts.Need-part-seek-end (
-  of-rank-reads.Asked,
-  of-rank-reads.Learnt,
+  few-reads.Asked,
+  few-reads.Learnt,
+  of-few-reads.Asked,
+  of-few-reads.Learnt,
   tried-reads.Asked,
   tried-reads.Learnt,
   parted-in-reads.Asked,
   parted-in-reads.Learnt,
   seek-below t,
   seek.Post,
-  same-reads.Asked,
-  same-reads.Learnt,
+  reached-reads.Asked,
+  reached-reads.Learnt,
 ) (seek-at t) seek.Post
 seek-part-seek-end t c = search needs
 
 seek-seek-requires-2 : (t : ℕ) → seek-lts.Need-seek-requires-2 (
-  of-rank-reads.Asked,
-  of-rank-reads.Learnt,
+  few-reads.Asked,
+  few-reads.Learnt,
+  of-few-reads.Asked,
+  of-few-reads.Learnt,
   tried-reads.Asked,
   tried-reads.Learnt,
   parted-in-reads.Asked,
   parted-in-reads.Learnt,
   seek-below t,
   seek.Post,
-  same-reads.Asked,
-  same-reads.Learnt,
+  reached-reads.Asked,
+  reached-reads.Learnt,
 ) (seek-at t) seek.Post
 seek-seek-requires-2 t c κs =
-    let e : c .before .before .before .before .before .before .before .before .before .before .before .before .before .before .before .args .rounds ≡ t = c .before .before .before .before .before .before .before .before .before .before .before .before .before .before .before .pre .0 in
+    let e : c .before .before .before .before .before .before .before .before .before .before .before .before .before .before .before .before .args .rounds ≡ t = c .before .before .before .before .before .before .before .before .before .before .before .before .before .before .before .before .pre .0 in
     let h = c .before .before .before .before .before .before .before .before .before .before .before .if2 .left in
     (omega arith, tt)
 
 seek-same-length-4 : (t : ℕ) → seek-lts.Need-same-length-4 (
-  of-rank-reads.Asked,
-  of-rank-reads.Learnt,
+  few-reads.Asked,
+  few-reads.Learnt,
+  of-few-reads.Asked,
+  of-few-reads.Learnt,
   tried-reads.Asked,
   tried-reads.Learnt,
   parted-in-reads.Asked,
   parted-in-reads.Learnt,
   seek-below t,
   seek.Post,
-  same-reads.Asked,
-  same-reads.Learnt,
+  reached-reads.Asked,
+  reached-reads.Learnt,
 ) (seek-at t) seek.Post
 seek-same-length-4 t c = search needs
 
 seek-returns-5 : (t : ℕ) → seek-lts.Need-returns-5 (
-  of-rank-reads.Asked,
-  of-rank-reads.Learnt,
+  few-reads.Asked,
+  few-reads.Learnt,
+  of-few-reads.Asked,
+  of-few-reads.Learnt,
   tried-reads.Asked,
   tried-reads.Learnt,
   parted-in-reads.Asked,
   parted-in-reads.Learnt,
   seek-below t,
   seek.Post,
-  same-reads.Asked,
-  same-reads.Learnt,
+  reached-reads.Asked,
+  reached-reads.Learnt,
 ) (seek-at t) seek.Post
 seek-returns-5 t c = search needs
 
 pub +seek-spec : {M : Type 1} → statement M
 +seek-spec = close μ-seek λ t. seek-lts.spec (
-  of-rank-reads.Asked,
-  of-rank-reads.Learnt,
+  few-reads.Asked,
+  few-reads.Learnt,
+  of-few-reads.Asked,
+  of-few-reads.Learnt,
   tried-reads.Asked,
   tried-reads.Learnt,
   parted-in-reads.Asked,
   parted-in-reads.Learnt,
   seek-below t,
   seek.Post,
-  same-reads.Asked,
-  same-reads.Learnt,
+  reached-reads.Asked,
+  reached-reads.Learnt,
 )
     (seek-at t)
     seek.Post
-    (seek-of-rank-requires t)
+    (seek-few-requires t)
+    (seek-of-few-requires t)
     (seek-same-length t)
     (seek-returns t)
     (seek-returns-2 t)
@@ -357,7 +419,7 @@ pub +seek-spec : {M : Type 1} → statement M
     (seek-seek-requires t)
     (seek-same-length-2 t)
     (seek-returns-3 t)
-    (seek-same-requires t)
+    (seek-reached-requires t)
     (seek-same-length-3 t)
     (seek-returns-4 t)
     (seek-mul-seek t)

@@ -9,12 +9,6 @@ use borrow.Author.Needs.{needs}
 use Rattle.middle.proofs.middle.Statement.{statement}
 use Rattle.middle.proofs.middle.Tie as tie
 
-of-rank-requires : tie.Need-of-rank-requires
-of-rank-requires c κs = search needs
-
-returns : tie.Need-returns
-returns c = search needs
-
 parted-out-requires : tie.Need-parted-out-requires
 parted-out-requires c κs = search needs
 
@@ -24,9 +18,9 @@ slice-relend-prefix-seek c = search needs
 slice-aggregate-seek : tie.Need-slice-aggregate-seek
 slice-aggregate-seek c =
     let S : List ℕ = c .before .before .before .before .parted-out .last .1 .1 .1 .0 in
-    let k : length S ≡ length (c .before .before .before .before .before .before .before .before .before .before .args .work .now) = c .before .before .before .before .parted-out .kept .1 .1 .1 .0 in
+    let k : length S ≡ length (c .before .before .before .before .before .before .before .before .before .args .work .now) = c .before .before .before .before .parted-out .kept .1 .1 .1 .0 in
     let r = c .before .before .before .before .parted-out .ensures in
-    let w = c .before .before .before .before .before .before .before .before .before .before .pre in
+    let w = c .before .before .before .before .before .before .before .before .before .pre in
     sym (length-take-le _ S (omega arith))
 
 seek-requires : tie.Need-seek-requires
@@ -35,14 +29,14 @@ seek-requires c κs = search needs
 same-length : tie.Need-same-length
 same-length c = search needs
 
-returns-2 : tie.Need-returns-2
-returns-2 c = search needs
+returns : tie.Need-returns
+returns c = search needs
 
 same-length-2 : tie.Need-same-length-2
 same-length-2 c = search needs
 
-returns-3 : tie.Need-returns-3
-returns-3 c = search needs
+returns-2 : tie.Need-returns-2
+returns-2 c = search needs
 
 mul-seek : tie.Need-mul-seek
 mul-seek c = search needs
@@ -62,27 +56,25 @@ seek-requires-2 c κs = search needs
 same-length-3 : tie.Need-same-length-3
 same-length-3 c = search needs
 
-returns-4 : tie.Need-returns-4
-returns-4 c = search needs
+returns-3 : tie.Need-returns-3
+returns-3 c = search needs
 
 pub middle-spec : {M : Type 1} → statement M
 middle-spec =
     tie.close
     (tie.spec
-    of-rank-requires
-    returns
     parted-out-requires
     slice-relend-prefix-seek
     slice-aggregate-seek
     seek-requires
     same-length
-    returns-2
+    returns
     same-length-2
-    returns-3
+    returns-2
     mul-seek
     sub-seek
     part-seek-start
     part-seek-end
     seek-requires-2
     same-length-3
-    returns-4)
+    returns-3)

@@ -1,16 +1,16 @@
 -- `middle::parted_in` meets its contract. Assumes nothing.
 use mathlib.Core.Path.{_≡_}
 use Prim.Native.Nat.{_-_, _≤_}
-use lib.ListN.{length}
+use lib.ListN.{length, length-set}
 use borrow.Author.Needs.{needs}
 use Rattle.middle.proofs.parted_in.Statement.{statement}
 use Rattle.middle.proofs.parted_in.Tie as tie
 
 abbrev Inv-loop : tie.InvT-loop
-Inv-loop keys v part₀ a₀ i₀ part a i = (a ≤ i) × (i ≤ length part) × (length part ≡ length part₀)
+Inv-loop keys v part₀ a₀ i₀ part a i = (a ≤ i) × (i ≤ length part₀) × (length part ≡ length part₀)
 
 abbrev μ-loop : tie.MeasureT-loop
-μ-loop keys v part₀ a₀ i₀ part a i = length part - i
+μ-loop keys v part₀ a₀ i₀ part a i = length part₀ - i
 
 loop-holds : tie.Need-loop-holds Inv-loop μ-loop
 loop-holds c = search needs
@@ -18,8 +18,11 @@ loop-holds c = search needs
 at-requires : tie.Need-at-requires Inv-loop μ-loop
 at-requires c κs = search needs
 
-at-requires-2 : tie.Need-at-requires-2 Inv-loop μ-loop
-at-requires-2 c κs = search needs
+mul-y : tie.Need-mul-y Inv-loop μ-loop
+mul-y c = search needs
+
+slice-read-y : tie.Need-slice-read-y Inv-loop μ-loop
+slice-read-y c = search needs
 
 key-of-requires : tie.Need-key-of-requires Inv-loop μ-loop
 key-of-requires c κs = search needs
@@ -27,11 +30,17 @@ key-of-requires c κs = search needs
 bit-requires : tie.Need-bit-requires Inv-loop μ-loop
 bit-requires c κs = search needs
 
-put-requires : tie.Need-put-requires Inv-loop μ-loop
-put-requires c κs = search needs
+mul-part : tie.Need-mul-part Inv-loop μ-loop
+mul-part c = search needs
 
-put-requires-2 : tie.Need-put-requires-2 Inv-loop μ-loop
-put-requires-2 c κs = search needs
+slice-write-part : tie.Need-slice-write-part Inv-loop μ-loop
+slice-write-part c = search needs
+
+mul-part-2 : tie.Need-mul-part-2 Inv-loop μ-loop
+mul-part-2 c = search needs
+
+slice-write-part-2 : tie.Need-slice-write-part-2 Inv-loop μ-loop
+slice-write-part-2 c = simp length-set (search needs)
 
 add-a : tie.Need-add-a Inv-loop μ-loop
 add-a c = search needs
@@ -59,11 +68,14 @@ parted-in-spec =
     μ-loop
     loop-holds
     at-requires
-    at-requires-2
+    mul-y
+    slice-read-y
     key-of-requires
     bit-requires
-    put-requires
-    put-requires-2
+    mul-part
+    slice-write-part
+    mul-part-2
+    slice-write-part-2
     add-a
     add-i
     loop-less

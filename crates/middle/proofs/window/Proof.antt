@@ -7,7 +7,7 @@ use Rattle.middle.proofs.window.Statement.{statement}
 use Rattle.middle.proofs.window.Tie as tie
 
 abbrev Inv-loop : tie.InvT-loop
-Inv-loop keys l h list work₀ a₀ c₀ i₀ work a c i = (a ≤ i) × (c ≤ i) × (i ≤ length list) × (length work ≡ length work₀)
+Inv-loop keys l h list work₀ a₀ c₀ i₀ work a c i = (a ≤ i) × (c ≤ i) × (i ≤ length list) × (length work ≡ length work₀) × (length list ≤ length work₀)
 
 abbrev μ-loop : tie.MeasureT-loop
 μ-loop keys l h list work₀ a₀ c₀ i₀ work a c i = length list - i
@@ -21,8 +21,11 @@ at-requires c κs = search needs
 key-of-requires : tie.Need-key-of-requires Inv-loop μ-loop
 key-of-requires c κs = search needs
 
-put-requires : tie.Need-put-requires Inv-loop μ-loop
-put-requires c κs = search needs
+mul-work : tie.Need-mul-work Inv-loop μ-loop
+mul-work c = search needs
+
+slice-write-work : tie.Need-slice-write-work Inv-loop μ-loop
+slice-write-work c = search needs
 
 bit-requires : tie.Need-bit-requires Inv-loop μ-loop
 bit-requires c κs = search needs
@@ -60,7 +63,8 @@ window-spec =
     loop-holds
     at-requires
     key-of-requires
-    put-requires
+    mul-work
+    slice-write-work
     bit-requires
     add-a
     bit-requires-2

@@ -1,7 +1,7 @@
 -- `nearest::edge_distance` meets its contract. Assumes nothing.
 use mathlib.Core.Path.{ap}
 use Rattle.boundary.specs.declared.Near.{Near}
-use Rattle.boundary.proofs.SearchLaws.{found-near}
+use Rattle.distance.proofs.SearchLaws.{found-near}
 use borrow.Author.Needs.{needs}
 use Rattle.nearest.proofs.edge_distance.Statement.{statement}
 use Rattle.nearest.proofs.edge_distance.Tie as tie

@@ -2,7 +2,7 @@
 use mathlib.Core.Path.{_≡_}
 use Prim.Native.Nat.{_+_, _-_, _≤_}
 use Rattle.boundary.specs.Folds.{run, fold}
-use Rattle.index.specs.Layout.{itemAt}
+use Rattle.nodes.specs.Layout.{itemAt}
 use Rattle.nearest.specs.Nearest.{magnitudeAt}
 use Rattle.nearest.specs.Walk.{improved, bestOf}
 use borrow.Author.Needs.{needs}

@@ -1,6 +1,6 @@
 -- `nearest::nearest_to` meets its contract. Assumes nothing.
 use mathlib.Core.Path.{sym, _∙_}
-use Rattle.index.specs.Answers.{writtenFor}
+use Rattle.accept.specs.Lists.{writtenFor}
 use Rattle.set.specs.Answers.{clearedCorners, clearedLinks, clearedItems}
 use Rattle.set.proofs.AskLaws.{query-passed}
 use Rattle.nearest.specs.Answers.{nearestFor, nearestAnswer}

@@ -1,7 +1,8 @@
 -- `set::any_at` meets its contract. Assumes nothing.
 use mathlib.Core.Path.{sym, _∙_}
-use Rattle.index.specs.Answers.{writtenFor}
-use Rattle.set.specs.Answers.{flagFor, anyAnswer, clearedCorners, clearedLinks, clearedItems}
+use Rattle.accept.specs.Answers.{answerFor}
+use Rattle.accept.specs.Lists.{writtenFor}
+use Rattle.set.specs.Answers.{anyAnswer, clearedCorners, clearedLinks, clearedItems}
 use Rattle.set.proofs.AskLaws.{query-passed}
 use borrow.Author.Needs.{needs}
 use Rattle.set.proofs.any_at.Statement.{statement}
@@ -29,7 +30,7 @@ same-length-3 : tie.Need-same-length-3
 same-length-3 c = search needs
 
 returns : tie.Need-returns
-unfolding anyAnswer flagFor clearedCorners clearedLinks clearedItems writtenFor
+unfolding anyAnswer answerFor clearedCorners clearedLinks clearedItems writtenFor
 returns c =
     let e = sym (c .before .before .before .before .before .before .before .before .before .before .before .before .before .query-tested .ensures) ∙ c .before .before .before .before .before .before .before .before .before .before .before .enum-told .given .1 in
     let a = c .before .before .before .before .before .before .before .any-of .ensures in
@@ -45,14 +46,14 @@ same-length-6 : tie.Need-same-length-6
 same-length-6 c = search needs
 
 returns-2 : tie.Need-returns-2
-unfolding anyAnswer flagFor clearedCorners clearedLinks clearedItems writtenFor
+unfolding anyAnswer answerFor clearedCorners clearedLinks clearedItems writtenFor
 returns-2 c =
     let e = sym (c .before .before .before .before .before .before .before .before .before .before .before .before .before .query-tested .ensures) ∙ c .before .before .before .before .before .before .before .before .before .before .before .enum-told .given .1 in
     let a = c .before .before .before .before .before .before .before .any-of .ensures in
     (rw (e, ← a .answer, c .if1 .left), rw e (a .corners), rw e (a .links), rw e (a .items))
 
 returns-3 : tie.Need-returns-3
-unfolding anyAnswer flagFor clearedCorners clearedLinks clearedItems writtenFor
+unfolding anyAnswer answerFor clearedCorners clearedLinks clearedItems writtenFor
 returns-3 c =
     let e = sym (c .before .before .before .query-tested .ensures) ∙ c .before .t .given .1 in
     (rw e, rw e, rw e, rw e)

@@ -1,7 +1,7 @@
 -- `set::any_in` meets its contract. Assumes nothing.
 use denote.Ref.{now}
 use native.Mathlib.Omega.{arith}
-use Rattle.set.proofs.AskLaws.{fit-within, starts-put, ready-listed, listed-count, asked-of}
+use Rattle.set.proofs.AskLaws.{fit-within, starts-put, ready-listed, listed-count, answered-of}
 use borrow.Author.Needs.{needs}
 use Rattle.set.proofs.any_in.Statement.{statement}
 use Rattle.set.proofs.any_in.Tie as tie
@@ -76,7 +76,7 @@ returns : tie.Need-returns
 returns c =
     let d = c .before .before .before .before .before .before .before .before .before .before .before .before .before .before .before .before .before .before .before .before .before .before .before .before .before .before .before .before .before .before .before .before .before .before .before in
     let a = d .args in
-    asked-of (now (a .v)) (now (a .counts)) (a .p) _ _ _ (d .pre .0) (now (a .boxes)) _ (d .pre .1) (c .before .before .before .before .before .before .before .before .before .before .before .before .before .before .before .before .before .before .before .before .before .before .before .before .before .put-boxes .ensures) _ _ _ _ _ _ _ _ _ (c .before .before .before .before .before .before .before .before .before .before .before .before .listed .ensures) _ (c .any-holds .ensures)
+    answered-of (now (a .v)) (now (a .counts)) (a .p) _ _ _ (d .pre .0) (now (a .boxes)) _ (d .pre .1) (c .before .before .before .before .before .before .before .before .before .before .before .before .before .before .before .before .before .before .before .before .before .before .before .before .before .put-boxes .ensures) _ _ _ _ _ _ _ _ _ (c .before .before .before .before .before .before .before .before .before .before .before .before .listed .ensures) _ (c .any-holds .ensures)
 
 pub any-in-spec : {M : Type 1} → statement M
 any-in-spec =

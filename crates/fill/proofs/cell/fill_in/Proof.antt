@@ -5,10 +5,10 @@ use native.Mathlib.Nat.{le-refl}
 use native.Mathlib.Omega.{arith}
 use lib.ListN.{length}
 use Rattle.number.specs.Exact.{zeroᶠ}
-use Rattle.geometry.proofs.ClearLaws.{zeros-past}
+use Rattle.accept.proofs.ClearLaws.{zeros-past}
 use Rattle.clip.proofs.LentLaws.{rest-kept}
 use Rattle.fill.specs.Fill.{fillOf}
-use Rattle.fill.specs.Answers.{halfOf, filled, cleared}
+use Rattle.fill.specs.Answers.{halfOf, filled}
 use Rattle.fill.proofs.FillLaws.{widened}
 use borrow.Author.Needs.{needs}
 use Rattle.fill.proofs.cell.fill_in.Statement.{statement}
@@ -33,7 +33,7 @@ same-length : tie.Need-same-length
 same-length c = search needs
 
 returns : tie.Need-returns
-unfolding filled fillOf cleared
+unfolding filled fillOf
 returns c =
     let c8 = c .before .before .before .before .before .before .before .before in
     let c12 = c8 .before .before .before .before in

@@ -1,11 +1,14 @@
 -- `geometry::polygon::area` meets its contract. Assumes nothing.
 use borrow.Author.Needs.{needs}
-use Rattle.geometry.specs.Answers.{answerFor, areaAnswer}
+use mathlib.Core.Path.{sym, _∙_}
+use Rattle.accept.specs.Answers.{answerFor}
+use Rattle.accept.proofs.VerdictLaws.{area-passed, turned-failed}
+use Rattle.geometry.specs.Answers.{areaAnswer}
 use Rattle.geometry.proofs.polygon.area.Statement.{statement}
 use Rattle.geometry.proofs.polygon.area.Tie as tie
 
-outline-tested-requires : tie.Need-outline-tested-requires
-outline-tested-requires c κs = search needs
+outline-verdict-requires : tie.Need-outline-verdict-requires
+outline-verdict-requires c κs = search needs
 
 enum-known-a : tie.Need-enum-known-a
 enum-known-a c = search needs
@@ -15,11 +18,13 @@ enum-known-r c = search needs
 
 returns : tie.Need-returns
 unfolding areaAnswer answerFor
-returns c = rw (← c .before .before .before .outline-tested .ensures, c .before .a .given .1)
+returns c =
+    let p = area-passed _ _ _ (sym (c .before .before .before .outline-verdict .ensures) ∙ c .before .a .given .1) in
+    rw (p .0, p .1)
 
 returns-2 : tie.Need-returns-2
 unfolding areaAnswer answerFor
-returns-2 c = rw (← c .before .before .before .outline-tested .ensures, c .before .r .given .1)
+returns-2 c = rw (turned-failed _ _ _ (sym (c .before .before .before .outline-verdict .ensures) ∙ c .before .r .given .1))
 
 pub area-spec : {M : Type 1} → statement M
-area-spec = tie.close (tie.spec outline-tested-requires enum-known-a enum-known-r returns returns-2)
+area-spec = tie.close (tie.spec outline-verdict-requires enum-known-a enum-known-r returns returns-2)

@@ -1,6 +1,7 @@
 -- `geometry::polygon::bounds` meets its contract. Assumes nothing.
 use borrow.Author.Needs.{needs}
-use Rattle.geometry.specs.Answers.{answerFor, boundsAnswer}
+use Rattle.accept.specs.Answers.{answerFor}
+use Rattle.geometry.specs.Answers.{boundsAnswer}
 use Rattle.geometry.proofs.polygon.bounds.Statement.{statement}
 use Rattle.geometry.proofs.polygon.bounds.Tie as tie
 

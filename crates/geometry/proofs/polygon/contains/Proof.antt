@@ -1,6 +1,7 @@
 -- `geometry::polygon::contains` meets its contract. Assumes nothing.
 use borrow.Author.Needs.{needs}
-use Rattle.geometry.specs.Answers.{answerFor, containsAnswer}
+use Rattle.accept.specs.Answers.{answerFor}
+use Rattle.geometry.specs.Answers.{containsAnswer}
 use Rattle.geometry.proofs.polygon.contains.Statement.{statement}
 use Rattle.geometry.proofs.polygon.contains.Tie as tie
 

@@ -1,8 +1,9 @@
 -- `geometry::polygon::distance` meets its contract. Assumes nothing.
 use mathlib.Core.Path.{sym, _∙_}
 use borrow.Author.Needs.{needs}
-use Rattle.geometry.specs.Answers.{answerFor, distanceAnswer}
-use Rattle.geometry.proofs.TestLaws.{accepted-field, point-passed}
+use Rattle.accept.specs.Answers.{answerFor}
+use Rattle.geometry.specs.Answers.{distanceAnswer}
+use Rattle.accept.proofs.TestLaws.{accepted-field, point-passed}
 use Rattle.geometry.proofs.polygon.distance.Statement.{statement}
 use Rattle.geometry.proofs.polygon.distance.Tie as tie
 
@@ -22,8 +23,8 @@ distance-requires : tie.Need-distance-requires
 distance-requires c κs =
     let d = c .before in
     let e = d .before .before in
-    let p = point-passed _ _ _ (sym (e .point-tested .ensures) ∙ d .enum-told .given .1) in
-    let v = accepted-field _ _ (sym (e .before .outline-tested .ensures) ∙ p .1) in
+    let p = point-passed _ _ (sym (e .point-tested .ensures) ∙ d .enum-told .given .1) in
+    let v = accepted-field _ (sym (e .before .outline-tested .ensures) ∙ p .1) in
     (v .0, p .0, v .1)
 
 enum-known-r : tie.Need-enum-known-r

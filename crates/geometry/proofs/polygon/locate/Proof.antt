@@ -1,6 +1,7 @@
 -- `geometry::polygon::locate` meets its contract. Assumes nothing.
 use borrow.Author.Needs.{needs}
-use Rattle.geometry.specs.Answers.{answerFor, locateAnswer}
+use Rattle.accept.specs.Answers.{answerFor}
+use Rattle.geometry.specs.Answers.{locateAnswer}
 use Rattle.geometry.proofs.polygon.locate.Statement.{statement}
 use Rattle.geometry.proofs.polygon.locate.Tie as tie
 

@@ -6,9 +6,12 @@ use borrow.Author.Needs.{needs}
 use borrow.Author.Tests.{lt-ltb, le-ltb}
 use lib.Ieee.{ofBits}
 use lib.Seq.{length-take-le}
-use Rattle.geometry.specs.Answers.{answerFor}
-use Rattle.geometry.specs.Making.{kept, makeAnswer, writtenFor, madeList}
-use Rattle.geometry.proofs.TestLaws.{passed-size}
+use Rattle.accept.specs.Answers.{answerFor}
+use Rattle.accept.specs.Lists.{writtenFor}
+use Rattle.accept.specs.Refusals.{roomTested}
+use Rattle.geometry.specs.Making.{kept, makeTested, makeAnswer, madeList}
+use Rattle.accept.proofs.TestLaws.{passed-size}
+use Rattle.accept.proofs.VerdictLaws.{area-passed, turned-failed}
 use Rattle.geometry.proofs.polygon.new.Statement.{statement}
 use Rattle.geometry.proofs.polygon.new.Tie as tie
 
@@ -25,11 +28,11 @@ enum-known-a : tie.Need-enum-known-a
 enum-known-a c = search needs
 
 returns : tie.Need-returns
-unfolding makeAnswer madeList writtenFor answerFor kept
+unfolding makeAnswer madeList makeTested roomTested writtenFor answerFor kept
 returns c =
     let d = c .before .before .before .before in
     let k = d .before .before .kept-count .ensures .0 in
-    let e = sym (d .shape-tested .ensures) ∙ c .before .before .a .given .1 in
+    let e = area-passed _ _ _ (sym (d .shape-tested .ensures) ∙ c .before .before .a .given .1) .0 in
     let s = lt-ltb _ _ (c .if1 .taken) in
     (rw (← k, e, s), rw (← k, e, s))
 
@@ -42,7 +45,7 @@ cast-t17 : tie.Need-cast-t17
 cast-t17 c =
     let d = c .before .before .before .before .before .before .before .before in
     let k = d .before .before .kept-count .ensures .1 in
-    let l = passed-size _ _ (sym (d .shape-tested .ensures) ∙ c .before .before .before .before .before .before .a .given .1) in
+    let l = passed-size _ (area-passed _ _ _ (sym (d .shape-tested .ensures) ∙ c .before .before .before .before .before .before .a .given .1) .0) in
     omega (arith, rw (length-take-le _ _ k) at l)
 
 enum-known-r : tie.Need-enum-known-r
@@ -52,21 +55,21 @@ same-length : tie.Need-same-length
 same-length c = search needs
 
 returns-2 : tie.Need-returns-2
-unfolding makeAnswer madeList writtenFor answerFor kept ofBits
+unfolding makeAnswer madeList makeTested roomTested writtenFor answerFor kept ofBits
 returns-2 c =
     let b = c .before .before .before .before in
     let d = b .before .before .before .before in
     let k = d .before .before .kept-count .ensures in
-    let e = sym (d .shape-tested .ensures) ∙ b .before .before .a .given .1 in
+    let e = area-passed _ _ _ (sym (d .shape-tested .ensures) ∙ b .before .before .a .given .1) in
     let s = le-ltb _ _ (b .if1 .left) in
-    (rw (← k .0, e, s, length-take-le _ _ (k .1)), rw (← k .0, e, s, ← k .0, c .before .before .write .ensures))
+    (rw (← k .0, e .0, s, length-take-le _ _ (k .1)), rw (← k .0, e .0, s, e .1, c .before .before .write .ensures))
 
 returns-3 : tie.Need-returns-3
-unfolding makeAnswer madeList writtenFor answerFor kept
+unfolding makeAnswer madeList makeTested roomTested writtenFor answerFor kept
 returns-3 c =
     let d = c .before .before .before in
     let k = d .before .before .kept-count .ensures .0 in
-    let e = sym (d .shape-tested .ensures) ∙ c .before .r .given .1 in
+    let e = turned-failed _ _ _ (sym (d .shape-tested .ensures) ∙ c .before .r .given .1) in
     (rw (← k, e), rw (← k, e))
 
 pub new-spec : {M : Type 1} → statement M

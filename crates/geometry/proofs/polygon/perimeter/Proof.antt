@@ -1,6 +1,7 @@
 -- `geometry::polygon::perimeter` meets its contract. Assumes nothing.
 use borrow.Author.Needs.{needs}
-use Rattle.geometry.specs.Answers.{answerFor, perimeterAnswer}
+use Rattle.accept.specs.Answers.{answerFor}
+use Rattle.geometry.specs.Answers.{perimeterAnswer}
 use Rattle.geometry.proofs.polygon.perimeter.Statement.{statement}
 use Rattle.geometry.proofs.polygon.perimeter.Tie as tie
 

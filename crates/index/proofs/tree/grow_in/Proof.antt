@@ -1,6 +1,6 @@
 -- `index::tree::grow_in` meets its contract. Assumes nothing.
 use Rattle.index.proofs.GrowLaws.{numbers-ascend, grown-all}
-use Rattle.index.specs.Entries.{boxCount}
+use Rattle.entries.specs.Entries.{boxCount}
 use lib.Seq.{length-take-le, length-front}
 use lib.ListN.{drop}
 use native.Mathlib.Omega.{arith}

@@ -1,5 +1,5 @@
 -- `index::tree::grow_leaf` meets its contract. Assumes nothing.
-use Rattle.index.specs.Entries.{boxCount}
+use Rattle.entries.specs.Entries.{boxCount}
 use Rattle.index.proofs.GrowLaws.{leaf-stored}
 use lib.Seq.{length-take-le}
 use mathlib.Core.Path.{sym}

@@ -1,6 +1,6 @@
 -- `index::tree::hull_wide` meets its contract. Assumes nothing.
-use Rattle.index.specs.Entries.{boxCount, wideAt}
-use Rattle.index.specs.Tree.{hull, hullOf}
+use Rattle.entries.specs.Entries.{boxCount, wideAt}
+use Rattle.splits.specs.Tree.{hull, hullOf}
 use Rattle.index.proofs.GrowLaws.{run-ascends}
 use Rattle.boundary.proofs.FoldLaws.{fold-run-next, fold-run-end}
 use Rattle.boundary.specs.Folds.{run, fold}

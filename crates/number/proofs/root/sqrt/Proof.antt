@@ -31,14 +31,23 @@ sub-l c = moved-at c .eleven
 cast-l : tie.Need-cast-l
 cast-l c = omega (arith, moved-at c .far)
 
-shl-root-of : tie.Need-shl-root-of
-shl-root-of c = omega (arith, moved-at c .far)
+shl-c : tie.Need-shl-c
+shl-c c = omega (arith, moved-at c .far)
+
+add-i : tie.Need-add-i
+add-i c = search needs
+
+mul-i : tie.Need-mul-i
+mul-i c = search needs
+
+add-i-2 : tie.Need-add-i-2
+add-i-2 c = omega (arith, moved-at c .hi)
 
 sub-root-of : tie.Need-sub-root-of
 sub-root-of c = omega (arith, moved-at c .far)
 
 root-of-requires : tie.Need-root-of-requires
-root-of-requires c κs = (moved-at c .lo, moved-at c .hi, omega (arith, moved-at c .far), omega (arith, moved-at c .far))
+root-of-requires c κs = (moved-at c .lo, moved-at c .hi, omega (arith, moved-at c .far), omega (arith, moved-at c .far), omega (arith, moved-at c .hi))
 
 returns : tie.Need-returns
 returns c = c .root-of .ensures ∙ ap rootOf (moved-at (c .before) .same) ∙ sym (main-at (c .before .before) .under (c .before .if3 .taken))
@@ -67,4 +76,4 @@ unfolding ofBits div
 returns-4 c = c .pick .ensures ∙ not-above (c .before .before .args .x) (c .before .if1 .left)
 
 pub sqrt-spec : {M : Type 1} → statement M
-sqrt-spec = tie.close (tie.spec float-to-bits-b sub-l cast-l shl-root-of sub-root-of root-of-requires returns add-root-of add-root-of-2 root-of-requires-2 returns-2 returns-3 pick-requires returns-4)
+sqrt-spec = tie.close (tie.spec float-to-bits-b sub-l cast-l shl-c add-i mul-i add-i-2 sub-root-of root-of-requires returns add-root-of add-root-of-2 root-of-requires-2 returns-2 returns-3 pick-requires returns-4)

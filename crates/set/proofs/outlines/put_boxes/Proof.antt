@@ -1,6 +1,6 @@
 -- `set::outlines::put_boxes` meets its contract: the boxes so far stand at the front. Assumes nothing.
 use mathlib.Core.Path.{_≡_, refl, ap, _∙_}
-use mathlib.Core.List.{List}
+use mathlib.Core.List.{List, flatMap}
 use Prim.Native.Nat.{ℕ, _+_, _-_, _*_, _≤_}
 use native.Mathlib.Nat.{le-antisymm}
 use native.Mathlib.Omega.{arith}
@@ -11,8 +11,8 @@ use lib.Ieee.{Float}
 use Rattle.boundary.specs.Folds.{run}
 use Rattle.boundary.specs.Outline.{vertices}
 use Rattle.geometry.specs.Polygon.{boundsOf}
-use Rattle.index.specs.Entries.{boxNumbers, flat}
-use Rattle.index.proofs.StoreLaws.{flat-more}
+use Rattle.entries.specs.Entries.{boxNumbers}
+use Rattle.entries.proofs.StoreLaws.{flat-more}
 use Rattle.set.specs.Set.{startOf, outlineAt, outlinesOf, setBoxes}
 use Rattle.set.proofs.SetLaws.{start-next, part-within, part-is}
 use borrow.Author.Needs.{needs}
@@ -23,13 +23,13 @@ abbrev boxed : List Float → List Float
 boxed o = boxNumbers (boundsOf (vertices o))
 
 abbrev Inv-loop : tie.InvT-loop
-Inv-loop v counts boxes₀ at₀ k₀ boxes at k = (k ≤ length counts) × (at ≡ 2 * startOf counts k) × (boxes ≡ sets boxes₀ 0 (flat boxed (run (outlineAt v counts) 0 k)))
+Inv-loop v counts boxes₀ at₀ k₀ boxes at k = (k ≤ length counts) × (at ≡ 2 * startOf counts k) × (boxes ≡ sets boxes₀ 0 (flatMap boxed (run (outlineAt v counts) 0 k)))
 
 abbrev μ-loop : tie.MeasureT-loop
 μ-loop v counts boxes₀ at₀ k₀ boxes at k = length counts - k
 
 loop-holds : tie.Need-loop-holds Inv-loop μ-loop
-unfolding run flat startOf
+unfolding run flatMap startOf
 loop-holds c = (search needs, search needs, refl)
 
 at-requires : tie.Need-at-requires Inv-loop μ-loop

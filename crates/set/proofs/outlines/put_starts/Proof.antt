@@ -7,7 +7,7 @@ use denote.Ref.{now}
 use lib.ListN.{length}
 use lib.Seq.{sets, length-sets}
 use Rattle.boundary.specs.Folds.{run}
-use Rattle.index.proofs.StoreLaws.{sets-more}
+use Rattle.entries.proofs.StoreLaws.{sets-more}
 use Rattle.set.specs.Set.{startOf}
 use Rattle.set.proofs.SetLaws.{start-next, start-within}
 use borrow.Author.Needs.{needs}

@@ -1,4 +1,5 @@
 -- `set::refusals::rank_in` meets its contract. Assumes nothing.
+use Rattle.accept.proofs.VerdictLaws.{test-of-verdict}
 use Rattle.set.proofs.OnePassLaws.{rank-first}
 use borrow.Author.Needs.{needs}
 use Rattle.set.proofs.refusals.rank_in.Statement.{statement}
@@ -22,11 +23,16 @@ values-tested-requires c κs = search needs
 sign-tested-requires : tie.Need-sign-tested-requires
 sign-tested-requires c κs = search needs
 
+test-of-requires : tie.Need-test-of-requires
+test-of-requires c κs = search needs
+
 rank-of-requires : tie.Need-rank-of-requires
 rank-of-requires c κs = search needs
 
 returns : tie.Need-returns
-returns c = rw (c .rank-of .ensures, c .before .sign-tested .ensures, c .before .before .values-tested .ensures) (rank-first _)
+returns c =
+    let d = c .before .before in
+    rw (c .rank-of .ensures, c .before .test-of .ensures, d .sign-tested .ensures _ _ (d .before .values-tested .ensures), test-of-verdict) (rank-first _)
 
 pub rank-in-spec : {M : Type 1} → statement M
 rank-in-spec =
@@ -38,5 +44,6 @@ rank-in-spec =
     part-values-tested-end
     values-tested-requires
     sign-tested-requires
+    test-of-requires
     rank-of-requires
     returns)

@@ -41,15 +41,15 @@ use denote.Triple.Table.{entered, cited}
 use denote.Triple.Clauses.{ensured, lasts}
 use denote.Triple.Walked.{says, Stays, stay-dropped, gave-slice, gave-ref, walkOf, goes-dropped, goes-gave-slice, goes-gave-ref, Walks, ends-at, walked, walk-meets}
 use denote.Exit.{yes}
-use Rattle.index.specs.declared.Node.{Node}
+use Rattle.nodes.specs.declared.Node.{Node}
 use Rattle.records.specs.declared.Recording.{Recording}
-use Rattle.index.specs.Tree.{indexOf}
+use Rattle.splits.specs.Tree.{indexOf}
 use Rattle.index.specs.Answers.{nodesIn, itemsIn}
 use Rattle.records.specs.Records.{nodesTested, nodesAnswer, Recorded}
 use Rattle.records.proofs.RecordLaws.{recorded-fits, recorded-written}
 use Rattle.records.proofs.RecordingIs.{listVal, list-is, recording-is, number-small, count-small}
-use Rattle.index.proofs.Node as T
-use Rattle.index.proofs.Node.Laws as T′
+use Rattle.nodes.proofs.Node as T
+use Rattle.nodes.proofs.Node.Laws as T′
 use Rattle.records.proofs.Recording as R
 use Rattle.records.proofs.Recording.Laws as R′
 use Rattle.records.proofs.records as g

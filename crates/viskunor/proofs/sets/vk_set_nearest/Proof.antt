@@ -6,17 +6,8 @@ use Rattle.viskunor.proofs.sets.vk_set_nearest.Tie as tie
 nearest-to-requires : tie.Need-nearest-to-requires
 nearest-to-requires c κs = search needs
 
-found-of-requires : tie.Need-found-of-requires
-found-of-requires c κs = search needs
-
-outline-of-requires : tie.Need-outline-of-requires
-outline-of-requires c κs = search needs
-
-distance-of-requires : tie.Need-distance-of-requires
-distance-of-requires c κs = search needs
-
-number-of-requires : tie.Need-number-of-requires
-number-of-requires c κs = search needs
+fields-requires : tie.Need-fields-requires
+fields-requires c κs = search needs
 
 same-length : tie.Need-same-length
 same-length c = search needs
@@ -29,18 +20,16 @@ same-length-3 c = search needs
 
 returns : tie.Need-returns
 returns c =
-    let m = c .before .before .before .before .before .before .before .before .before .before .nearest-to .ensures in
-    (rw (c .number-of .ensures, m .0), rw (c .before .before .before .found-of .ensures, m .0), rw (c .before .before .outline-of .ensures, m .0), rw (c .before .distance-of .ensures, m .0), m .1, m .2, m .3)
+    let f = c .fields .ensures in
+    let m = c .before .before .before .before .before .before .before .nearest-to .ensures in
+    (rw (f, m .0), rw (f, m .0), rw (f, m .0), rw (f, m .0), m .1, m .2, m .3)
 
 pub vk-set-nearest-spec : {M : Type 1} → statement M
 vk-set-nearest-spec =
     tie.close
     (tie.spec
     nearest-to-requires
-    found-of-requires
-    outline-of-requires
-    distance-of-requires
-    number-of-requires
+    fields-requires
     same-length
     same-length-2
     same-length-3

@@ -1,0 +1,46 @@
+-- Zeros in the first n places of a list, one by one. Assumes nothing.
+use mathlib.Core.Path.{_≡_, refl, sym, ap, _∙_}
+use mathlib.Core.List.{List, [], _∷_, _++_}
+use Prim.Native.Nat.{ℕ, zero, suc, _+_, _≤_, _<_}
+use native.Mathlib.Nat.{not-suc-le-zero, le-of-suc-le-suc}
+use native.Mathlib.Numerals.{add-one}
+use native.Mathlib.Omega.{arith}
+use lib.ListN.{length, set, drop, replicate, length-set, length-replicate}
+use Rattle.accept.specs.Lists.{atFront, zeros}
+
+module _ {A : Type 0} (z : A) where
+  set-next : (i : ℕ) (s : List A) → i < length s → set (replicate i z ++ drop i s) i z ≡ replicate (suc i) z ++ drop (suc i) s
+  set-next i [] l = absurd (not-suc-le-zero l)
+  set-next zero (x ∷ s) l = refl
+  set-next (suc i) (x ∷ s) l = ap (λ (r : List A). z ∷ r) (set-next i s (le-of-suc-le-suc l))
+
+  pub zeros-front : (n : ℕ) (s : List A) → atFront (zeros z n) s ≡ replicate n z ++ drop n s
+  unfolding atFront
+  zeros-front n s = ap (λ (k : ℕ). replicate n z ++ drop k s) (length-replicate n z)
+
+  -- what stood in the first n places does not matter
+  pub zeros-past : (n : ℕ) (s t : List A) → drop n s ≡ drop n t → atFront (zeros z n) s ≡ atFront (zeros z n) t
+  zeros-past n s t e = zeros-front n s ∙ ap (λ (r : List A). replicate n z ++ r) e ∙ sym (zeros-front n t)
+
+  -- the list s₀ has become s, with zeros in the first i places
+  pub record Clearing (s₀ : List A) (n : ℕ) (s : List A) (i : ℕ) : Type 0 where
+    pub within : i ≤ n
+    pub same : length s ≡ length s₀
+    pub zeroed : s ≡ replicate i z ++ drop i s₀
+
+  module _ (s₀ : List A) (n : ℕ) where
+    pub clearing-none : Clearing s₀ n s₀ 0
+    clearing-none = record { within = omega arith; same = refl; zeroed = refl }
+
+    pub clearing-more : (s : List A) (i : ℕ) → n ≤ length s₀ → Clearing s₀ n s i → i < n → Clearing s₀ n (set s i z) (i + 1)
+    clearing-more s i h c l = record {
+      within = omega arith;
+      same = length-set s i z ∙ c .same;
+      zeroed = rw (c .zeroed, add-one) (set-next i s₀ (omega arith));
+    }
+
+    pub clearing-all : (s : List A) (i : ℕ) → Clearing s₀ n s i → n ≤ i → s ≡ atFront (zeros z n) s₀
+    clearing-all s i c l =
+        let w = c .within in
+        let e : i ≡ n = omega arith in
+        c .zeroed ∙ ap (λ (k : ℕ). replicate k z ++ drop k s₀) e ∙ sym (zeros-front n s₀)

@@ -1,0 +1,8 @@
+-- Laws of what is accepted.
+
+-- What an outline that passes the tests has.
+pub mod TestLaws
+-- What the tests hand over, and what it tells.
+pub mod VerdictLaws
+-- Zeros in the first places of a list.
+pub mod ClearLaws

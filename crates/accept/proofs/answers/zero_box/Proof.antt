@@ -1,0 +1,12 @@
+-- `accept::answers::zero_box` meets its contract. Assumes nothing.
+use mathlib.Core.Path.{refl}
+use lib.Ieee.{ofBits}
+use Rattle.accept.proofs.answers.zero_box.Statement.{statement}
+use Rattle.accept.proofs.answers.zero_box.Tie as tie
+
+returns : tie.Need-returns
+unfolding ofBits
+returns c = refl
+
+pub zero-box-spec : {M : Type 1} → statement M
+zero-box-spec = tie.close (tie.spec returns)

@@ -1,0 +1,12 @@
+-- What is accepted, and what a refused call gives. Definitions only.
+
+-- An outline's area.
+pub mod Area
+-- The tests that an outline, a point, a cell and a buffer go through, in document 01's order.
+pub mod Refusals
+-- What the tests of an outline hand over: its area too.
+pub mod Verdicts
+-- What an operation answers, and the paper's number and values for it.
+pub mod Answers
+-- Lent lists, as a call leaves them.
+pub mod Lists

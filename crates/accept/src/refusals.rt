@@ -1,0 +1,249 @@
+// The tests of an outline, a point, a cell and a buffer, in document 01's order. An outline's area, which
+// the tests work out, is handed over with what they say.
+ghost use mathlib.Core.Path.{_≡_};
+ghost use mathlib.Core.Bool.{not, cond};
+ghost use mathlib.Core.List.{List};
+ghost use lib.Ieee.{Float, eq};
+ghost use lib.Ieee.Scale.{finite};
+ghost use Rattle.number.specs.Exact.{zeroᶠ};
+ghost use Rattle.boundary.specs.Boxes.{inField, boxFits};
+ghost use Rattle.boundary.specs.Folds.{any};
+ghost use Rattle.boundary.specs.Outline.{edges};
+ghost use Rattle.accept.specs.declared.Refusal.the-variants.{EqualNeighbours, ZeroArea};
+ghost use Rattle.accept.specs.declared.Test.the-variants.{Passed, Failed};
+ghost use Rattle.accept.specs.declared.Test.{Test};
+ghost use Rattle.accept.specs.Area.{crossOf, areaOf};
+ghost use Rattle.accept.specs.Refusals.{number, samePoint, equalNeighbours, zeroArea, valuesTested, shapeTested, outlineTested, signTested, pointTested, cellTested, roomTested};
+ghost use Rattle.accept.specs.Verdicts.{verdictOf, testOf};
+use crate::Refusal;
+use crate::Test;
+use crate::Verdict;
+use boundary::Bounds;
+use boundary::Edge;
+use boundary::Point;
+
+const LIMIT: f64 = 1048576.0;
+
+// The paper's number of a refusal.
+pub fn number_of(r: Refusal) -> u32
+    ensures { λ n. ⌜ n ≡ number r ⌝ }
+{
+    match r {
+        Refusal::OddCount => 1,
+        Refusal::BadCounts => 2,
+        Refusal::TooFew => 3,
+        Refusal::TooMany => 4,
+        Refusal::NotFinite => 5,
+        Refusal::OutsideField => 6,
+        Refusal::EqualNeighbours => 7,
+        Refusal::ZeroArea => 8,
+        Refusal::NegativeArea => 9,
+        Refusal::BadPoint => 10,
+        Refusal::BadBox => 11,
+        Refusal::BadEllipse => 12,
+        Refusal::ShortBuffer => 13,
+        Refusal::LongList => 14,
+    }
+}
+
+fn is_finite(x: f64) -> bool
+    ensures { λ r. ⌜ r ≡ finite x ⌝ }
+{
+    let top = 1.0 / 0.0;
+    (-top < x) & (x < top)
+}
+
+// Whether x is in the field.
+pub fn in_field(x: f64) -> bool
+    ensures { λ r. ⌜ r ≡ inField x ⌝ }
+{
+    (-LIMIT <= x) & (x <= LIMIT)
+}
+
+// Whether a box is in the field, and no minimum is above its maximum.
+pub fn box_fits(b: Bounds) -> bool
+    ensures { λ r. ⌜ r ≡ boxFits b ⌝ }
+{
+    let upper = in_field(b.max.x)
+        & (in_field(b.max.y) & ((b.min.x <= b.max.x) & (b.min.y <= b.max.y)));
+    in_field(b.min.x) & (in_field(b.min.y) & upper)
+}
+
+pub fn same_point(a: Point, b: Point) -> bool
+    ensures { λ r. ⌜ r ≡ samePoint a b ⌝ }
+{
+    (a.x == b.x) & (a.y == b.y)
+}
+
+// Whether x passes test 5, where that is all that is asked; else test 6.
+fn number_fits(only: bool, x: f64) -> bool
+    ensures { λ r. ⌜ r ≡ cond only (finite x) (inField x) ⌝ }
+{
+    if only { is_finite(x) } else { in_field(x) }
+}
+
+// Whether a number does not pass it.
+fn any_unfit(v: &[f64], only: bool) -> bool
+    ensures { λ r. ⌜ r ≡ any (λ x. not (cond only (finite x) (inField x))) (now (v .entry)) ⌝ }
+{
+    let mut found = false;
+    let mut i = 0;
+    while i < v.len() {
+        found = found | !number_fits(only, v[i]);
+        i += 1;
+    }
+    found
+}
+
+// An edge's term of the shoelace sum.
+fn cross(e: Edge) -> f64
+    ensures { λ r. ⌜ r ≡ crossOf e ⌝ }
+{
+    e.a.x * e.b.y - e.b.x * e.a.y
+}
+
+// Test 8.
+fn area_tested(a: f64) -> Verdict
+    ensures { λ r. ⌜ r ≡ verdictOf (cond (eq a zeroᶠ) (Failed ZeroArea) Passed) a ⌝ }
+{
+    if a == 0.0 {
+        return Verdict::TurnedAway(Refusal::ZeroArea);
+    }
+    Verdict::Area(a)
+}
+
+// Tests 7 and 8, in one pass over the edges.
+fn edges_tested(v: &[f64]) -> Verdict
+    ensures { λ r. ⌜ r ≡ verdictOf (cond (equalNeighbours (now (v .entry))) (Failed EqualNeighbours) (cond (zeroArea (now (v .entry))) (Failed ZeroArea) Passed)) (areaOf (edges (now (v .entry)))) ⌝ }
+{
+    let n = v.len() / 2;
+    let mut sum = 0.0;
+    let mut i = 0;
+    while i < n {
+        let e = boundary::edge_at(v, i);
+        if same_point(e.a, e.b) {
+            return Verdict::TurnedAway(Refusal::EqualNeighbours);
+        }
+        sum = sum + cross(e);
+        i += 1;
+    }
+    area_tested(sum / 2.0)
+}
+
+// Tests 5 to 8. What is not finite is outside the field too, so one pass tells that both pass.
+pub fn values_tested(v: &[f64]) -> Verdict
+    ensures { λ r. ⌜ r ≡ verdictOf (valuesTested (now (v .entry))) (areaOf (edges (now (v .entry)))) ⌝ }
+{
+    if any_unfit(v, false) {
+        if any_unfit(v, true) {
+            return Verdict::TurnedAway(Refusal::NotFinite);
+        }
+        return Verdict::TurnedAway(Refusal::OutsideField);
+    }
+    edges_tested(v)
+}
+
+// Tests 1 and 3 to 8.
+pub fn shape_tested(v: &[f64]) -> Verdict
+    ensures { λ r. ⌜ r ≡ verdictOf (shapeTested (now (v .entry))) (areaOf (edges (now (v .entry)))) ⌝ }
+{
+    let n = v.len() / 2;
+    if v.len() % 2 == 1 {
+        return Verdict::TurnedAway(Refusal::OddCount);
+    }
+    if n < 3 {
+        return Verdict::TurnedAway(Refusal::TooFew);
+    }
+    if 4096 < n {
+        return Verdict::TurnedAway(Refusal::TooMany);
+    }
+    values_tested(v)
+}
+
+// Test 9, after those that handed t over.
+pub fn sign_tested(t: Verdict) -> Verdict
+    ensures { λ r. ⌜ ((v : List Float) (s : Test) → t ≡ verdictOf s (areaOf (edges v)) → r ≡ verdictOf (signTested v s) (areaOf (edges v))) ⌝ }
+{
+    match t {
+        Verdict::Area(a) => {
+            if a < 0.0 {
+                Verdict::TurnedAway(Refusal::NegativeArea)
+            } else {
+                Verdict::Area(a)
+            }
+        }
+        Verdict::TurnedAway(r) => Verdict::TurnedAway(r),
+    }
+}
+
+// The tests of a query's outline, 1 to 9, with its area.
+pub fn outline_verdict(v: &[f64]) -> Verdict
+    ensures { λ r. ⌜ r ≡ verdictOf (outlineTested (now (v .entry))) (areaOf (edges (now (v .entry)))) ⌝ }
+{
+    sign_tested(shape_tested(v))
+}
+
+// What the tests say, without the area.
+pub fn test_of(t: Verdict) -> Test
+    ensures { λ r. ⌜ r ≡ testOf t ⌝ }
+{
+    match t {
+        Verdict::Area(_) => Test::Passed,
+        Verdict::TurnedAway(r) => Test::Failed(r),
+    }
+}
+
+// The tests of a query's outline, for a caller that does not need the area.
+pub fn outline_tested(v: &[f64]) -> Test
+    ensures { λ r. ⌜ r ≡ outlineTested (now (v .entry)) ⌝ }
+{
+    test_of(outline_verdict(v))
+}
+
+// Test 10, after those of the outline or of the set.
+pub fn point_tested(p: Point, t: Test) -> Test
+    ensures { λ r. ⌜ r ≡ pointTested p t ⌝ }
+{
+    match t {
+        Test::Passed => {
+            if in_field(p.x) & in_field(p.y) {
+                Test::Passed
+            } else {
+                Test::Failed(Refusal::BadPoint)
+            }
+        }
+        Test::Failed(r) => Test::Failed(r),
+    }
+}
+
+// Test 11 of a cell, after those of the outline or of the boxes.
+pub fn cell_tested(c: Bounds, t: Test) -> Test
+    ensures { λ r. ⌜ r ≡ cellTested c t ⌝ }
+{
+    match t {
+        Test::Passed => {
+            if box_fits(c) {
+                Test::Passed
+            } else {
+                Test::Failed(Refusal::BadBox)
+            }
+        }
+        Test::Failed(r) => Test::Failed(r),
+    }
+}
+
+// Test 13: whether a lent buffer is too short, after all before it.
+pub fn room_tested(short: bool, t: Test) -> Test
+    ensures { λ r. ⌜ r ≡ roomTested short t ⌝ }
+{
+    match t {
+        Test::Passed => {
+            if short {
+                Test::Failed(Refusal::ShortBuffer)
+            } else {
+                Test::Passed
+            }
+        }
+        Test::Failed(r) => Test::Failed(r),
+    }
+}

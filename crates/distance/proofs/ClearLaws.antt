@@ -1,0 +1,47 @@
+-- The threshold of `signed` over the whole field: it is at most 2 ^ -25. Assumes nothing.
+use mathlib.Core.Path.{_≡_, sym, subst}
+use mathlib.Core.Bool.{true}
+use native.Mathlib.Nat.{le-trans}
+use lib.Dec.{T, lit≤}
+use lib.Ieee.{Float, mul, lt, le, eq, fits}
+use lib.Ieee.Bits.{is-true}
+use Rattle.number.specs.Exact.{Held}
+use Rattle.number.specs.Hypot.{shortEnd, Short}
+use Rattle.number.specs.Signs.{absOf}
+use Rattle.number.proofs.Monotone.{mul-mono-left}
+use Rattle.number.proofs.OrderLaws.{max-one-of, through-below}
+use Rattle.number.proofs.Values.{abs-held, is-short}
+use Rattle.boundary.specs.declared.Point.{Point}
+use Rattle.boundary.specs.declared.Edge.{Edge}
+use Rattle.boundary.specs.Line.{footOf}
+use Rattle.boundary.specs.Boxes.{PointOf, FieldValue, FieldPoint, FieldEdge}
+use Rattle.distance.specs.Nearest.{units16, roundingOf}
+use Rattle.distance.specs.Search.{clear}
+use Rattle.boundary.proofs.FieldLaws.{field-is}
+use Rattle.boundary.proofs.AlongLaws.{param-share, along-at-most}
+
+-- the nearest point of an edge is at most 2 ^ 23 away from the origin, of each axis
+pub foot-at-most : {e : Edge} {p : Point} → FieldEdge e → FieldPoint p → PointOf Short (footOf e p)
+unfolding footOf
+foot-at-most E P = let t = param-share E P in record { x = along-at-most (E .a .x) (E .b .x) t; y = along-at-most (E .a .y) (E .b .y) t }
+
+-- a magnitude of at most 2 ^ 23
+record Magnitude (x : Float) : Type 0 where
+  held : Held x
+  size : T (le x shortEnd)
+
+magnitude : {x : Float} → Short x → Magnitude (absOf x)
+magnitude h = record { held = abs-held (h .held); size = h .size }
+
+field-short : {x : Float} → FieldValue x → Short x
+field-short h = let z = field-is h in is-short {z = z .0} (record { is = z .1 .is; near = le-trans (z .1 .near) (lit≤ tt) }) (h .fits)
+
+threshold : {q p : Point} → PointOf Short q → FieldPoint p → T (le (roundingOf q p) clear)
+unfolding roundingOf mul
+threshold {q} {p} Q P =
+    let m = max-one-of Magnitude (max-one-of Magnitude (max-one-of Magnitude (magnitude (field-short (P .x))) (magnitude (field-short (P .y)))) (magnitude (Q .x))) (magnitude (Q .y)) in
+    mul-mono-left {x = units16} {y' = shortEnd} (record { fits = unfold fits in tt; finite = tt }) (m .held) (record { fits = unfold fits in tt; finite = tt }) (unfold le lt eq in tt) (m .size)
+
+-- so what is above 2 ^ -25 is above it
+pub above-threshold : {q p : Point} (m : Float) → PointOf Short q → FieldPoint p → lt clear m ≡ true → lt (roundingOf q p) m ≡ true
+above-threshold {q} {p} m Q P h = is-true (lt (roundingOf q p) m) (through-below (roundingOf q p) clear m (threshold Q P) (subst T (sym h) tt))

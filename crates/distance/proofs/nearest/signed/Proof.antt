@@ -1,0 +1,49 @@
+-- `distance::nearest::signed` meets its contract. Assumes nothing.
+use borrow.Author.Needs.{needs}
+use lib.Ieee.{ofBits}
+use Rattle.distance.specs.Nearest.{signedOf}
+use Rattle.boundary.proofs.KnownLaws.{owned-point, owned-edge}
+use Rattle.distance.proofs.ClearLaws.{foot-at-most}
+use Rattle.distance.proofs.nearest.signed.Statement.{statement}
+use Rattle.distance.proofs.nearest.signed.Tie as tie
+
+flip-requires : tie.Need-flip-requires
+flip-requires c κs = search needs
+
+is-clear-requires : tie.Need-is-clear-requires
+is-clear-requires c κs =
+    let s = c .before in
+    let E = owned-edge (s .good .0) (s .pre .0) in
+    let P = owned-point (s .good .1 .1 .1 .0) (s .pre .1) in
+    (rw (s .pre .2) (foot-at-most E P), s .pre .1)
+
+flip-requires-2 : tie.Need-flip-requires-2
+flip-requires-2 c κs = search needs
+
+flip-requires-3 : tie.Need-flip-requires-3
+flip-requires-3 c κs = search needs
+
+returns : tie.Need-returns
+unfolding signedOf
+returns c =
+    let d = c .before .before .before in
+    let e = d .before .before .before in
+    rw (← e .before .is-clear .ensures, e .if1 .taken, c .flip3 .ensures, d .flip2 .ensures, e .before .before .flip .ensures)
+
+normal-requires : tie.Need-normal-requires
+normal-requires c κs = search needs
+
+returns-2 : tie.Need-returns-2
+unfolding signedOf ofBits
+returns-2 c =
+    let e = c .before .before in
+    rw (← e .before .is-clear .ensures, e .if1 .left, c .if2 .taken, c .before .normal .ensures, e .before .before .flip .ensures)
+
+returns-3 : tie.Need-returns-3
+unfolding signedOf ofBits
+returns-3 c =
+    let e = c .before .before in
+    rw (← e .before .is-clear .ensures, e .if1 .left, c .if2 .left, c .before .normal .ensures)
+
+pub signed-spec : {M : Type 1} → statement M
+signed-spec = tie.close (tie.spec flip-requires is-clear-requires flip-requires-2 flip-requires-3 returns normal-requires returns-2 returns-3)

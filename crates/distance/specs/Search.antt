@@ -1,0 +1,44 @@
+-- How the nearest edge is found: an edge whose box, widened, is clearly farther than the nearest point so far is left out. Inner: no export's promise speaks of it. Definitions only.
+use mathlib.Core.Bool.{Bool, false, not, cond}
+use Prim.Native.Nat.{ℕ}
+use lib.Dec.{ltb}
+use lib.IntN.{negsuc}
+use lib.Ieee.{Float, fin, binary64, add, sub, lt}
+use Rattle.number.specs.Exact.{zeroᶠ}
+use Rattle.number.specs.Hypot.{hypotOf, clearLimit}
+use Rattle.boundary.specs.declared.Point.{Point}
+use Rattle.boundary.specs.declared.Edge.{Edge}
+use Rattle.distance.specs.declared.Found.{Found}
+use Rattle.boundary.specs.Line.{squaresOf, footOf}
+use Rattle.boundary.specs.Boxes.{lesser, greater}
+
+-- 2 ^ -20, by which an edge's box is widened
+abbrev pub margin : Float
+margin = fin false 1 (negsuc 19)
+
+-- 2 ^ -25: in the field no threshold of `signed` is above it
+abbrev pub clear : Float
+clear = fin false 1 (negsuc 24)
+
+-- how far p is outside the ends a and b, widened, of one axis
+unfoldable pub outside : Float → Float → Float → Float
+outside a b p = greater (greater (sub binary64 (sub binary64 (lesser a b) margin) p) (sub binary64 p (add binary64 (greater a b) margin))) zeroᶠ
+
+-- the squared distance of p from the edge's widened box
+unfoldable pub gapSquares : Edge → Point → Float
+gapSquares e p = squaresOf (record { x = outside (e .a .x) (e .b .x) (p .x); y = outside (e .a .y) (e .b .y) (p .y) })
+
+-- p less q, and how long that is
+abbrev pub lessPoint : Point → Point → Point
+lessPoint p q = record { x = sub binary64 (p .x) (q .x); y = sub binary64 (p .y) (q .y) }
+
+abbrev pub lengthTo : Point → Point → Float
+lengthTo p q = hypotOf (sub binary64 (p .x) (q .x)) (sub binary64 (p .y) (q .y))
+
+-- edge e, which has the number i, its point nearest to p, and the squared distance from which on an edge is clearly farther
+unfoldable pub foundOf : Edge → ℕ → Point → Found
+foundOf e i p = let q = footOf e p in record { i = i; q = q; far = clearLimit (squaresOf (lessPoint p q)) }
+
+-- the i-th edge, at the distance c, wins over the j-th, at the distance d: it is nearer, or the first of two that are equally near
+abbrev pub wins : ℕ → Float → ℕ → Float → Bool
+wins i c j d = cond (ltb i j) (not (lt d c)) (lt c d)

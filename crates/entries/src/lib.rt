@@ -1,0 +1,175 @@
+// The boxes of a list, widened, and their centres.
+ghost use mathlib.Core.Path.{_≡_};
+ghost use mathlib.Core.List.{flatMap};
+ghost use Prim.Native.Nat.{_*_, _≤_, _<_, _^_};
+ghost use lib.Dec.{T};
+ghost use lib.Ieee.{nan, le};
+ghost use lib.ListN.{length, getD, set};
+ghost use lib.Seq.{sets};
+ghost use Rattle.number.specs.Signs.{absOf, maxOf};
+ghost use Rattle.boundary.specs.Line.{one};
+ghost use Rattle.boundary.specs.Boxes.{scaleOf, widenedOf};
+ghost use Rattle.boundary.specs.Folds.{run};
+ghost use Rattle.entries.specs.Entries.{boxCount, boxAt, boxNumbers, wideAt, centreOf};
+use boundary::Bounds;
+use boundary::Point;
+use boundary::middle_of;
+
+// The number at i, NaN past the end.
+pub fn number_at(v: &[f64], i: usize) -> f64
+    ensures { λ r. ⌜ r ≡ getD (now (v .entry)) i nan ⌝ }
+{
+    if i < v.len() { v[i] } else { 0.0 / 0.0 }
+}
+
+// Stores x at i; nothing past the end.
+pub fn put_number(v: &mut [f64], i: usize, x: f64)
+    ensures { λ _. ⌜ now (v .exit) ≡ set (now (v .entry)) i x ⌝ }
+{
+    if i < v.len() {
+        v[i] = x;
+    }
+}
+
+// Box i of a list's numbers, each of which may be past the end.
+fn box_tested(v: &[f64], i: usize) -> Bounds
+    requires { ⌜ i ≤ 2 ^ 32 ⌝ }
+    ensures { λ r. ⌜ r ≡ boxAt (now (v .entry)) i ⌝ }
+{
+    let k = 4 * i;
+    Bounds {
+        min: Point {
+            x: number_at(v, k),
+            y: number_at(v, k + 1),
+        },
+        max: Point {
+            x: number_at(v, k + 2),
+            y: number_at(v, k + 3),
+        },
+    }
+}
+
+// The same with one test for all four numbers.
+pub fn box_at(v: &[f64], i: usize) -> Bounds
+    requires { ⌜ i ≤ 2 ^ 32 ⌝ }
+    ensures { λ r. ⌜ r ≡ boxAt (now (v .entry)) i ⌝ }
+{
+    let k = 4 * i;
+    if k + 3 < v.len() {
+        return Bounds {
+            min: Point {
+                x: v[k],
+                y: v[k + 1],
+            },
+            max: Point {
+                x: v[k + 2],
+                y: v[k + 3],
+            },
+        };
+    }
+    box_tested(v, i)
+}
+
+// Stores a box's numbers as box i, those that are not past the end.
+fn put_tested(v: &mut [f64], i: usize, b: Bounds)
+    requires { ⌜ i < 2 ^ 32 ⌝ }
+    ensures { λ _. ⌜ now (v .exit) ≡ sets (now (v .entry)) (4 * i) (boxNumbers b) ⌝ }
+{
+    let k = 4 * i;
+    put_number(v, k, b.min.x);
+    put_number(v, k + 1, b.min.y);
+    put_number(v, k + 2, b.max.x);
+    put_number(v, k + 3, b.max.y);
+}
+
+// The same with one test for all four numbers.
+pub fn put_box(v: &mut [f64], i: usize, b: Bounds)
+    requires { ⌜ i < 2 ^ 32 ⌝ }
+    ensures { λ _. ⌜ now (v .exit) ≡ sets (now (v .entry)) (4 * i) (boxNumbers b) ⌝ }
+{
+    let k = 4 * i;
+    if k + 3 < v.len() {
+        v[k] = b.min.x;
+        v[k + 1] = b.min.y;
+        v[k + 2] = b.max.x;
+        v[k + 3] = b.max.y;
+        return;
+    }
+    put_tested(v, i, b);
+}
+
+// The larger of s, which is 1 at least, and the magnitude of y.
+fn larger(s: f64, y: f64) -> f64
+    requires { ⌜ T (le one s) ⌝ }
+    ensures { λ r. ⌜ (r ≡ maxOf s (absOf y)) × T (le one r) ⌝ }
+{
+    let m = number::signs::pick(y < 0.0, -y, y);
+    number::signs::pick(s < m, m, s)
+}
+
+// The largest of 1 and the corners' magnitudes.
+fn scale(b: Bounds) -> f64
+    ensures { λ r. ⌜ r ≡ scaleOf b ⌝ }
+{
+    let left = larger(1.0, b.min.x);
+    let bottom = larger(left, b.min.y);
+    let right = larger(bottom, b.max.x);
+    larger(right, b.max.y)
+}
+
+// The box, widened by a hair.
+pub fn widened(b: Bounds) -> Bounds
+    ensures { λ r. ⌜ r ≡ widenedOf b ⌝ }
+{
+    let m = 1e-9 * scale(b);
+    Bounds {
+        min: Point {
+            x: b.min.x - m,
+            y: b.min.y - m,
+        },
+        max: Point {
+            x: b.max.x + m,
+            y: b.max.y + m,
+        },
+    }
+}
+
+pub fn centre(b: Bounds) -> Point
+    ensures { λ r. ⌜ r ≡ centreOf b ⌝ }
+{
+    Point {
+        x: middle_of(b.min.x, b.max.x),
+        y: middle_of(b.min.y, b.max.y),
+    }
+}
+
+// The widened boxes of a list, and their centres' coordinates.
+pub fn widen(boxes: &[f64], wide: &mut [f64], xs: &mut [f64], ys: &mut [f64])
+    requires { ⌜ boxCount (now boxes) ≤ 1024 ⌝ }
+    ensures { λ _. ⌜ (now (wide .exit) ≡ sets (now (wide .entry)) 0 (flatMap boxNumbers (run (wideAt (now (boxes .entry))) 0 (boxCount (now (boxes .entry))))))
+        × (now (xs .exit) ≡ sets (now (xs .entry)) 0 (run (λ i. centreOf (wideAt (now (boxes .entry)) i) .x) 0 (boxCount (now (boxes .entry)))))
+        × (now (ys .exit) ≡ sets (now (ys .entry)) 0 (run (λ i. centreOf (wideAt (now (boxes .entry)) i) .y) 0 (boxCount (now (boxes .entry))))) ⌝ }
+{
+    let n = boxes.len() / 4;
+    let mut i = 0;
+    while i < n {
+        let b = widened(box_at(boxes, i));
+        let c = centre(b);
+        put_box(wide, i, b);
+        put_number(xs, i, c.x);
+        put_number(ys, i, c.y);
+        i += 1;
+    }
+}
+
+// The numbers from 0 on.
+pub fn count_up(items: &mut [u32])
+    requires { ⌜ length (now items) ≤ 1024 ⌝ }
+    ensures { λ _. ⌜ now (items .exit) ≡ run (λ i. i) 0 (length (now (items .entry))) ⌝ }
+{
+    let mut i = 0;
+    while i < items.len() {
+        sorts::put(items, i, i as u32);
+        i += 1;
+    }
+}

@@ -1,0 +1,4 @@
+-- Laws of pieces.
+
+-- What the halving loop cites.
+pub mod HalveLaws

@@ -1,0 +1,13 @@
+-- `pieces::ellipse::foot_at` meets its contract. Assumes nothing.
+use mathlib.Core.Path.{refl}
+use lib.Ieee.{ofBits}
+use Rattle.pieces.specs.Ellipse.{footAt}
+use Rattle.pieces.proofs.ellipse.foot_at.Statement.{statement}
+use Rattle.pieces.proofs.ellipse.foot_at.Tie as tie
+
+returns : tie.Need-returns
+unfolding footAt ofBits
+returns c = refl
+
+pub foot-at-spec : {M : Type 1} → statement M
+foot-at-spec = tie.close (tie.spec returns)
