@@ -24,6 +24,7 @@ static uint32_t n0, n1;
 
 static uint32_t nothing(void) { return 0; }
 static uint32_t root(void) { d0 = vk_sqrt(2.0); return 0; }
+static uint32_t length(void) { d0 = vk_hypot(1.0, 2.0); return 0; }
 static uint32_t make(void) { return vk_outline_make(outline, 8192, work, 8192, &n0); }
 static uint32_t area(void) { return vk_outline_area(outline, 8192, &d0); }
 static uint32_t perimeter(void) { return vk_outline_perimeter(outline, 8192, &d0); }
@@ -106,7 +107,7 @@ static void prepare(void)
 int main(void)
 {
     static measured all[] = {
-        { "vk_sqrt", root, 0 }, { "vk_outline_make", make, 0 }, { "vk_outline_area", area, 0 },
+        { "vk_sqrt", root, 0 }, { "vk_hypot", length, 0 }, { "vk_outline_make", make, 0 }, { "vk_outline_area", area, 0 },
         { "vk_outline_perimeter", perimeter, 0 }, { "vk_outline_bounds", bounds, 0 },
         { "vk_outline_contains", contains, 0 }, { "vk_outline_locate", locate, 0 },
         { "vk_outline_distance", distance, 0 }, { "vk_outline_fill", fill, 0 },

@@ -1,6 +1,7 @@
-//! The box tree: building it, and listing what meets a cell. Ours tests the boxes, and `meeting` builds
-//! and clears the index itself; the Rust makes an `Index` of the same boxes, and for `meeting` asks it.
-use crate::library::{self, Lent};
+//! The box tree: building it, in lists and as node records, and listing what meets a cell. Ours tests the boxes, and `meeting` builds
+//! and clears the index itself; the Rust makes an `Index` of the same boxes, and for `meeting` asks it. The
+//! row 'clearing' times filling the index buffer with zeros by itself, by the C library.
+use crate::library::{self, Lent, Node};
 use crate::original::geometry::{Bounds, Point};
 use crate::original::index::Index;
 use crate::outlines::keep;
@@ -51,11 +52,28 @@ impl Space {
             items: &mut self.items,
         }
     }
+
+    /// Zeros in all places, as `meeting` leaves them.
+    fn clear(&mut self) {
+        self.corners.fill(0.0);
+        self.links.fill(0);
+        self.items.fill(0);
+        black_box(self);
+    }
 }
 
 pub fn rows(table: &mut Table) {
     let mut space = Space::new();
     let mut found = vec![0; 1024];
+    let none = Node {
+        min_x: 0.0,
+        min_y: 0.0,
+        max_x: 0.0,
+        max_y: 0.0,
+        first: 0,
+        count: 0,
+    };
+    let mut nodes = vec![none; 511];
     for n in [4, 64, 1024] {
         let list = boxes(n);
         let rust = bounds(&list);
@@ -69,6 +87,14 @@ pub fn rows(table: &mut Table) {
             || keep(Index::new(black_box(&rust))),
         );
         table.row("build", &inputs, a, b);
+        let (a, b) = times(
+            || {
+                let v = black_box(list.as_slice());
+                keep(library::index_nodes(v, &mut nodes, &mut found, &mut fields));
+            },
+            || keep(Index::new(black_box(&rust))),
+        );
+        table.row("nodes", &inputs, a, b);
         let cell = [3.0, 3.0, 6.0, 6.0];
         let corners = bounds(&cell)[0];
         let mut count = 0;
@@ -83,5 +109,13 @@ pub fn rows(table: &mut Table) {
             || keep(Index::new(black_box(&rust)).meeting(black_box(corners))),
         );
         table.row("meeting", &inputs, a, b);
+        if n == 4 {
+            // What `meeting` has to do besides, alone: no call that does it is faster.
+            let (a, b) = times(
+                || space.clear(),
+                || keep(Index::new(black_box(&rust)).meeting(black_box(corners))),
+            );
+            table.row("clearing", "alone, beside the Rust's meeting of 4", a, b);
+        }
     }
 }

@@ -1,20 +1,17 @@
 // The tests of an outline, a point, a cell and a buffer, in document 01's order. An outline's area, which
 // the tests work out, is handed over with what they say.
 ghost use mathlib.Core.Path.{_≡_};
-ghost use mathlib.Core.Bool.{not, cond};
+ghost use mathlib.Core.Bool.{false, not, cond};
 ghost use mathlib.Core.List.{List};
-ghost use lib.Ieee.{Float, eq};
+ghost use lib.Ieee.{Float, binary64, add, div};
 ghost use lib.Ieee.Scale.{finite};
-ghost use Rattle.number.specs.Exact.{zeroᶠ};
 ghost use Rattle.boundary.specs.Boxes.{inField, boxFits};
 ghost use Rattle.boundary.specs.Folds.{any};
 ghost use Rattle.boundary.specs.Outline.{edges};
-ghost use Rattle.accept.specs.declared.Refusal.the-variants.{EqualNeighbours, ZeroArea};
-ghost use Rattle.accept.specs.declared.Test.the-variants.{Passed, Failed};
 ghost use Rattle.accept.specs.declared.Test.{Test};
-ghost use Rattle.accept.specs.Area.{crossOf, areaOf};
-ghost use Rattle.accept.specs.Refusals.{number, samePoint, equalNeighbours, zeroArea, valuesTested, shapeTested, outlineTested, signTested, pointTested, cellTested, roomTested};
-ghost use Rattle.accept.specs.Verdicts.{verdictOf, testOf};
+ghost use Rattle.accept.specs.Area.{crossOf, two, areaOf};
+ghost use Rattle.accept.specs.Refusals.{number, samePoint, equalNeighbours, valuesTested, shapeTested, outlineTested, signTested, pointTested, cellTested, roomTested};
+ghost use Rattle.accept.specs.Verdicts.{verdictOf, edgesVerdict, testOf};
 use crate::Refusal;
 use crate::Test;
 use crate::Verdict;
@@ -104,7 +101,7 @@ fn cross(e: Edge) -> f64
 
 // Test 8.
 fn area_tested(a: f64) -> Verdict
-    ensures { λ r. ⌜ r ≡ verdictOf (cond (eq a zeroᶠ) (Failed ZeroArea) Passed) a ⌝ }
+    ensures { λ r. ⌜ r ≡ edgesVerdict false a ⌝ }
 {
     if a == 0.0 {
         return Verdict::TurnedAway(Refusal::ZeroArea);
@@ -112,22 +109,38 @@ fn area_tested(a: f64) -> Verdict
     Verdict::Area(a)
 }
 
-// Tests 7 and 8, in one pass over the edges.
+// Tests 7 and 8 of the last edge, where the terms before it come to sum.
+fn last_tested(sum: f64, e: Edge) -> Verdict
+    ensures { λ r. ⌜ r ≡ edgesVerdict (samePoint (e .a) (e .b)) (div binary64 (add binary64 sum (crossOf e)) two) ⌝ }
+{
+    if same_point(e.a, e.b) {
+        return Verdict::TurnedAway(Refusal::EqualNeighbours);
+    }
+    area_tested((sum + cross(e)) / 2.0)
+}
+
+// Tests 7 and 8, in one pass over the edges. Each vertex is read once: the end of one edge is the start of the next.
 fn edges_tested(v: &[f64]) -> Verdict
-    ensures { λ r. ⌜ r ≡ verdictOf (cond (equalNeighbours (now (v .entry))) (Failed EqualNeighbours) (cond (zeroArea (now (v .entry))) (Failed ZeroArea) Passed)) (areaOf (edges (now (v .entry)))) ⌝ }
+    ensures { λ r. ⌜ r ≡ edgesVerdict (equalNeighbours (now (v .entry))) (areaOf (edges (now (v .entry)))) ⌝ }
 {
     let n = v.len() / 2;
     let mut sum = 0.0;
+    if n == 0 {
+        return area_tested(sum / 2.0);
+    }
+    let first = boundary::vertex_at(v, 0);
+    let mut a = first;
     let mut i = 0;
-    while i < n {
-        let e = boundary::edge_at(v, i);
-        if same_point(e.a, e.b) {
+    while i + 1 < n {
+        let b = boundary::vertex_at(v, i + 1);
+        if same_point(a, b) {
             return Verdict::TurnedAway(Refusal::EqualNeighbours);
         }
-        sum = sum + cross(e);
+        sum = sum + cross(Edge { a, b });
+        a = b;
         i += 1;
     }
-    area_tested(sum / 2.0)
+    last_tested(sum, Edge { a, b: first })
 }
 
 // Tests 5 to 8. What is not finite is outside the field too, so one pass tells that both pass.

@@ -18,7 +18,7 @@ use Rattle.algebra.specs.Mono.{mul-mono}
 use Rattle.number.specs.Exact.{Is, Held, zeroᶠ}
 use Rattle.number.specs.Hypot.{Short}
 use Rattle.number.specs.Rounding.{Rounds}
-use Rattle.number.specs.Signs.{absOf, maxOf}
+use Rattle.signs.specs.Signs.{absOf, maxOf}
 use Rattle.number.proofs.Operations.{equation→is, zero-is, finite-is, add-rounds, sub-rounds, mul-rounds}
 use Rattle.number.proofs.RoundingLaws.{rounds-order, rounds-neg}
 use Rattle.number.proofs.ExactLaws.{mul-result}
@@ -30,21 +30,21 @@ use Rattle.boundary.specs.declared.Point.{Point}
 use Rattle.boundary.specs.declared.Edge.{Edge}
 use Rattle.boundary.specs.declared.Bounds.{Bounds}
 use Rattle.boundary.specs.Line.{one, paramOf, alongOf, footOf, lineNear}
-use Rattle.boundary.specs.Boxes.{PointOf, FieldValue, FieldPoint, FieldEdge, FieldBox, FiniteBox, Between, Share, Inside, lesser, greater, edgeBox, hair, nano, scaleOf, widenedBy, widenedOf, Around, gapAlong, gapOf}
+use Rattle.boundary.specs.Boxes.{PointOf, FieldValue, FieldPoint, FieldEdge, FieldBox, FiniteBox, Between, Share, Inside, lesser, greater, hull, edgeBox, hair, nano, scaleOf, widenedBy, widenedOf, Around, gapAlong, gapOf}
 use Rattle.boundary.proofs.FieldLaws.{field-held, field-is, field-box-finite, field-not-nan, is-field, field-abs, field-sub, field-add, widened-finite}
 use Rattle.boundary.proofs.AlongLaws.{param-share, along-inside, along-widened, ends-between, one-of, along-fits, between-held, along-short}
 
 -- ---- an edge's box
 
 pub edge-box-field : {e : Edge} → FieldEdge e → FieldBox (edgeBox e)
-unfolding edgeBox
+unfolding edgeBox hull
 edge-box-field {e} E = record {
   min = record { x = one-of FieldValue (lt (e .b .x) (e .a .x)) (E .b .x) (E .a .x); y = one-of FieldValue (lt (e .b .y) (e .a .y)) (E .b .y) (E .a .y) };
   max = record { x = one-of FieldValue (lt (e .a .x) (e .b .x)) (E .b .x) (E .a .x); y = one-of FieldValue (lt (e .a .y) (e .b .y)) (E .b .y) (E .a .y) };
 }
 
 pub edge-box-ends : {e : Edge} → FieldEdge e → Inside (e .a) (edgeBox e) × Inside (e .b) (edgeBox e)
-unfolding edgeBox
+unfolding edgeBox hull
 edge-box-ends {e} E =
     let x = ends-between (e .a .x) (e .b .x) (field-not-nan (E .a .x)) (field-not-nan (E .b .x)) in
     let y = ends-between (e .a .y) (e .b .y) (field-not-nan (E .a .y)) (field-not-nan (E .b .y)) in

@@ -10,5 +10,7 @@ pub mod FieldLaws
 pub mod AlongLaws
 -- It lies in the widened box, and the gap is at most the distance.
 pub mod BoxLaws
+-- The box around two boxes.
+pub mod AroundLaws
 -- What owning a point or an edge tells.
 pub mod KnownLaws

@@ -1,11 +1,11 @@
--- The field, and boxes: an edge's box, a box widened by a hair, and how far a point is from a box (document 01, index.rs). Definitions only.
-use mathlib.Core.Bool.{Bool, false, cond, _&&_}
+-- The field, and boxes: a box around points and boxes, a box widened by a hair, and how far a point is from a box (document 01, index.rs). Definitions only.
+use mathlib.Core.Bool.{Bool, true, false, cond, _&&_}
 use lib.Dec.{T}
 use lib.IntN.{pos, negsuc}
-use lib.Ieee.{Float, fin, binary64, add, sub, mul, neg, lt, le, fits}
+use lib.Ieee.{Float, fin, inf, binary64, add, sub, mul, neg, lt, le, fits}
 use Rattle.number.specs.Exact.{Held, zeroᶠ}
 use Rattle.number.specs.Hypot.{hypotOf}
-use Rattle.number.specs.Signs.{absOf, maxOf}
+use Rattle.signs.specs.Signs.{absOf, maxOf}
 use Rattle.boundary.specs.declared.Point.{Point}
 use Rattle.boundary.specs.declared.Edge.{Edge}
 use Rattle.boundary.specs.declared.Bounds.{Bounds}
@@ -82,7 +82,7 @@ pub record Around (n b : Bounds) : Type 0 where
   pub bottom : T (le (n .min .y) (b .min .y))
   pub top : T (le (b .max .y) (n .max .y))
 
--- ---- the box of an edge
+-- ---- boxes around points and boxes
 -- of two numbers the lesser and the greater, the first where they are equal
 abbrev pub lesser : Float → Float → Float
 lesser a b = cond (lt b a) b a
@@ -90,12 +90,33 @@ lesser a b = cond (lt b a) b a
 abbrev pub greater : Float → Float → Float
 greater a b = cond (lt a b) b a
 
-unfoldable pub edgeBox : Edge → Bounds
+-- the box around two boxes
+unfoldable pub hull : Bounds → Bounds → Bounds
 unfolding lt
-edgeBox e = record {
-  min = record { x = lesser (e .a .x) (e .b .x); y = lesser (e .a .y) (e .b .y) };
-  max = record { x = greater (e .a .x) (e .b .x); y = greater (e .a .y) (e .b .y) };
+hull a b = record {
+  min = record { x = lesser (a .min .x) (b .min .x); y = lesser (a .min .y) (b .min .y) };
+  max = record { x = greater (a .max .x) (b .max .x); y = greater (a .max .y) (b .max .y) };
 }
+
+-- the box with nothing in it, and the box of one point
+abbrev pub nowhere : Bounds
+nowhere = record { min = record { x = inf false; y = inf false }; max = record { x = inf true; y = inf true } }
+
+abbrev pub spot : Point → Bounds
+spot p = record { min = p; max = p }
+
+-- the box of four numbers, as a call is given it
+abbrev pub cellOf : Float → Float → Float → Float → Bounds
+cellOf left bottom right top = record { min = record { x = left; y = bottom }; max = record { x = right; y = top } }
+
+-- the box stretched to a point
+abbrev pub stretched : Bounds → Point → Bounds
+stretched b p = hull b (spot p)
+
+-- the box of an edge
+unfoldable pub edgeBox : Edge → Bounds
+unfolding hull
+edgeBox e = hull (spot (e .a)) (spot (e .b))
 
 -- ---- `widened`: by 10⁻⁹ of the largest of 1 and the corners' magnitudes
 abbrev pub nano : Float

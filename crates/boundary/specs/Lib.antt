@@ -8,5 +8,5 @@ pub mod Outline
 pub mod Length
 -- The nearest point of a line.
 pub mod Line
--- The field, and boxes: widened, and how far a point is from one.
+-- The field, and boxes: around points and boxes, widened, and how far a point is from one.
 pub mod Boxes

@@ -5,7 +5,7 @@ use lib.Ieee.{Float, fin, binary64, add, sub, mul, div, neg, lt, eq}
 use Rattle.number.specs.Exact.{zeroᶠ}
 use Rattle.number.specs.Root.{sqrtOf}
 use Rattle.number.specs.Hypot.{hypotOf}
-use Rattle.number.specs.Signs.{clampOf}
+use Rattle.signs.specs.Signs.{clampOf}
 use Rattle.boundary.specs.declared.Point.{Point}
 use Rattle.boundary.specs.declared.Edge.{Edge}
 use Rattle.boundary.specs.declared.Near.{Near}
@@ -20,9 +20,13 @@ half = fin false 1 (negsuc 0)
 abbrev pub middle : Float → Float → Float
 middle s0 s1 = mul binary64 half (add binary64 s0 s1)
 
--- the edge's way from a to b, of each axis, and its squared length
+-- p less q
+abbrev pub lessPoint : Point → Point → Point
+lessPoint p q = record { x = sub binary64 (p .x) (q .x); y = sub binary64 (p .y) (q .y) }
+
+-- the edge's way from a to b, and its squared length
 abbrev pub wayOf : Edge → Point
-wayOf e = record { x = sub binary64 (e .b .x) (e .a .x); y = sub binary64 (e .b .y) (e .a .y) }
+wayOf e = lessPoint (e .b) (e .a)
 
 abbrev pub squaresOf : Point → Float
 squaresOf w = add binary64 (mul binary64 (w .x) (w .x)) (mul binary64 (w .y) (w .y))

@@ -1,4 +1,5 @@
 // An outline's points and edges, and what boundary.rs works out from them.
+pub mod boxes;
 pub mod line;
 
 ghost use mathlib.Core.Path.{_≡_};
@@ -76,13 +77,13 @@ pub fn edge_at(v: &[f64], i: usize) -> Edge
 pub fn lesser_of(a: f64, b: f64) -> f64
     ensures { λ r. ⌜ r ≡ lesser a b ⌝ }
 {
-    number::signs::pick(b < a, b, a)
+    signs::pick(b < a, b, a)
 }
 
 pub fn greater_of(a: f64, b: f64) -> f64
     ensures { λ r. ⌜ r ≡ greater a b ⌝ }
 {
-    number::signs::pick(a < b, b, a)
+    signs::pick(a < b, b, a)
 }
 
 // Half the sum.

@@ -6,7 +6,7 @@ use crate::Near;
 use crate::Point;
 use number::root::hypot;
 use number::root::sqrt;
-use number::signs::pick;
+use signs::pick;
 
 // From a to b.
 fn way(e: Edge) -> Point

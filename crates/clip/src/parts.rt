@@ -7,7 +7,7 @@ use crate::Side;
 use boundary::Edge;
 use boundary::Point;
 use boundary::line::along;
-use number::signs::pick;
+use signs::pick;
 
 // The coordinate that the half-plane bounds.
 fn coord(s: Side, p: Point) -> f64

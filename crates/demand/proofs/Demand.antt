@@ -8,7 +8,7 @@ use borrow.Author.Tests.{ne-eqb}
 use lib.Dec.{T}
 use lib.ListN.{length}
 use lib.Ieee.{Float, inf, isNan}
-use Rattle.number.specs.Signs.{absOf}
+use Rattle.signs.specs.Signs.{absOf}
 use Rattle.number.proofs.OrderLaws.{below-le, left-not-nan}
 use Rattle.number.proofs.Values.{abs-is, below-infinity}
 use Rattle.boundary.specs.declared.Point.{Point}
@@ -24,10 +24,11 @@ use Rattle.geometry.specs.Answers.{distanceAnswer}
 use Rattle.set.specs.Set.{outlineAt}
 use Rattle.index.specs.Answers.{shortIndex}
 use Rattle.set.specs.Tests.{setTested, setQueryTested}
+use Rattle.search.specs.Least.{magnitudeOf, magnitudeAt, leastOf}
+use Rattle.search.proofs.LeastLaws.{least-of}
 use Rattle.nearest.specs.declared.Nearest.the-variants.{At}
-use Rattle.nearest.specs.Nearest.{magnitudeOf, magnitudeAt, leastOf, nearestIn}
+use Rattle.nearest.specs.Nearest.{nearestIn}
 use Rattle.nearest.specs.Answers.{nearestFor, nearestAnswer}
-use Rattle.nearest.proofs.LeastLaws.{least-of}
 use Rattle.nearest.proofs.Theorems.{least-is}
 use Rattle.exact.specs.Whole.{PointZ}
 use Rattle.exact.specs.Grid.{PointOn, OutlineOn}

@@ -6,7 +6,7 @@ use Prim.Native.Nat.{ℕ, _<_}
 use lib.ListN.{length}
 use lib.Ieee.{Float}
 use Rattle.number.specs.Exact.{Is}
-use Rattle.number.specs.Signs.{absOf}
+use Rattle.signs.specs.Signs.{absOf}
 use Rattle.boundary.specs.declared.Point.{Point}
 use Rattle.boundary.specs.declared.Distance.{Distance}
 use Rattle.boundary.specs.Outline.{edges}
@@ -14,9 +14,10 @@ use Rattle.accept.specs.declared.Answer.the-variants.{Told, Measure, Away}
 use Rattle.geometry.specs.Answers.{areaAnswer, locateAnswer, distanceAnswer}
 use Rattle.index.specs.Answers.{shortIndex}
 use Rattle.set.specs.Set.{outlineAt}
-use Rattle.nearest.specs.declared.Best.{Best}
+use Rattle.search.specs.declared.Best.{Best}
+use Rattle.search.specs.Least.{magnitudeAt}
 use Rattle.nearest.specs.declared.Nearest.the-variants.{At}
-use Rattle.nearest.specs.Nearest.{magnitudeAt, NearestIs}
+use Rattle.nearest.specs.Nearest.{NearestIs}
 use Rattle.nearest.specs.Answers.{nearestAnswer}
 use Rattle.exact.specs.Whole.{PointZ, EdgeZ, shoelaceZ, locationZ}
 use Rattle.exact.specs.Grid.{EdgesOn}

@@ -7,7 +7,7 @@ use lib.Ieee.{Float, mul, lt, le, eq, fits}
 use lib.Ieee.Bits.{is-true}
 use Rattle.number.specs.Exact.{Held}
 use Rattle.number.specs.Hypot.{shortEnd, Short}
-use Rattle.number.specs.Signs.{absOf}
+use Rattle.signs.specs.Signs.{absOf}
 use Rattle.number.proofs.Monotone.{mul-mono-left}
 use Rattle.number.proofs.OrderLaws.{max-one-of, through-below}
 use Rattle.number.proofs.Values.{abs-held, is-short}

@@ -25,11 +25,11 @@ use Rattle.boundary.specs.declared.Near.{Near}
 use Rattle.distance.specs.declared.Found.{Found}
 use Rattle.boundary.specs.Folds.{run, fold, any}
 use Rattle.boundary.specs.Outline.{count, after, vertexAt, edgeAt, edges}
-use Rattle.boundary.specs.Line.{squaresOf, footOf, normalOf, lineNear}
+use Rattle.boundary.specs.Line.{lessPoint, squaresOf, footOf, normalOf, lineNear}
 use Rattle.pieces.specs.Piece.{lineOf, pieceNear}
 use Rattle.distance.specs.Nearest.{nearer, farAway, nearestOf}
 use Rattle.boundary.specs.Boxes.{inField, pointInField, edgeInField, PointOf, FieldValue, FieldPoint, FieldEdge}
-use Rattle.distance.specs.Search.{margin, outside, gapSquares, lessPoint, lengthTo, foundOf, wins}
+use Rattle.distance.specs.Search.{margin, outside, gapSquares, lengthTo, foundOf, wins}
 use Rattle.boundary.proofs.AlongLaws.{param-share}
 use Rattle.boundary.proofs.BoxLaws.{along-out, foot-short}
 use Rattle.boundary.proofs.FoldLaws.{fold-run-next, fold-run-end, any-at}

@@ -4,7 +4,7 @@ use mathlib.Core.List.{List}
 use lib.IntN.{negsuc}
 use lib.Ieee.{Float, inf, fin, binary64, sub, mul, div, neg, lt}
 use Rattle.number.specs.Exact.{zeroᶠ}
-use Rattle.number.specs.Signs.{absOf, maxOf}
+use Rattle.signs.specs.Signs.{absOf, maxOf}
 use Rattle.boundary.specs.declared.Point.{Point}
 use Rattle.boundary.specs.declared.Edge.{Edge}
 use Rattle.boundary.specs.declared.Near.{Near}

@@ -9,7 +9,7 @@ use Rattle.number.specs.Hypot.{hypotOf, clearLimit}
 use Rattle.boundary.specs.declared.Point.{Point}
 use Rattle.boundary.specs.declared.Edge.{Edge}
 use Rattle.distance.specs.declared.Found.{Found}
-use Rattle.boundary.specs.Line.{squaresOf, footOf}
+use Rattle.boundary.specs.Line.{lessPoint, squaresOf, footOf}
 use Rattle.boundary.specs.Boxes.{lesser, greater}
 
 -- 2 ^ -20, by which an edge's box is widened
@@ -28,10 +28,7 @@ outside a b p = greater (greater (sub binary64 (sub binary64 (lesser a b) margin
 unfoldable pub gapSquares : Edge → Point → Float
 gapSquares e p = squaresOf (record { x = outside (e .a .x) (e .b .x) (p .x); y = outside (e .a .y) (e .b .y) (p .y) })
 
--- p less q, and how long that is
-abbrev pub lessPoint : Point → Point → Point
-lessPoint p q = record { x = sub binary64 (p .x) (q .x); y = sub binary64 (p .y) (q .y) }
-
+-- how long p less q is
 abbrev pub lengthTo : Point → Point → Float
 lengthTo p q = hypotOf (sub binary64 (p .x) (q .x)) (sub binary64 (p .y) (q .y))
 

@@ -8,9 +8,9 @@ ghost use Rattle.number.specs.Hypot.{clearLimit, Short};
 ghost use Rattle.boundary.specs.Folds.{any};
 ghost use Rattle.boundary.specs.Outline.{count, edgeAt, edges};
 ghost use Rattle.boundary.specs.Boxes.{inField, pointInField, edgeInField, PointOf};
-ghost use Rattle.boundary.specs.Line.{squaresOf, footOf, normalOf, lineNear};
+ghost use Rattle.boundary.specs.Line.{lessPoint, squaresOf, footOf, normalOf, lineNear};
 ghost use Rattle.distance.specs.Nearest.{nearestOf, roundingOf, flipped, signedOf};
-ghost use Rattle.distance.specs.Search.{outside, gapSquares, lessPoint, lengthTo, foundOf, wins};
+ghost use Rattle.distance.specs.Search.{outside, gapSquares, lengthTo, foundOf, wins};
 use crate::Found;
 use boundary::Distance;
 use boundary::Edge;
@@ -23,9 +23,9 @@ use boundary::vertex_at;
 use number::root::clear_limit;
 use number::root::hypot;
 use number::root::hypot_less;
-use number::signs::abs;
-use number::signs::max;
-use number::signs::pick;
+use signs::abs;
+use signs::max;
+use signs::pick;
 
 // 16 units in the last place of 1.
 const UNITS16: f64 = 0.0000000000000035527136788005009;

@@ -11,7 +11,7 @@ use lib.Ieee.Bits.{is-true, is-false}
 use lib.Ieee.Fits.{and-l, up-pos, down-pos, neg-fits}
 use borrow.Author.Tests.{lt-ltb, le-ltb, ne-eqb, eqb-true}
 use Rattle.number.specs.Exact.{zeroᶠ}
-use Rattle.number.specs.Signs.{signBit, withSign, absOf, before, maxOf}
+use Rattle.signs.specs.Signs.{signBit, withSign, absOf, before, maxOf}
 use Rattle.number.proofs.Units.{value-unique}
 use Rattle.number.proofs.OrderLaws.{le-through, not-below, below-le, level-le, below-not-le, below-through, right-not-nan}
 use Rattle.boundary.specs.Line.{one}

@@ -6,7 +6,7 @@ ghost use lib.Dec.{T};
 ghost use lib.Ieee.{nan, le};
 ghost use lib.ListN.{length, getD, set};
 ghost use lib.Seq.{sets};
-ghost use Rattle.number.specs.Signs.{absOf, maxOf};
+ghost use Rattle.signs.specs.Signs.{absOf, maxOf};
 ghost use Rattle.boundary.specs.Line.{one};
 ghost use Rattle.boundary.specs.Boxes.{scaleOf, widenedOf};
 ghost use Rattle.boundary.specs.Folds.{run};
@@ -103,8 +103,8 @@ fn larger(s: f64, y: f64) -> f64
     requires { ⌜ T (le one s) ⌝ }
     ensures { λ r. ⌜ (r ≡ maxOf s (absOf y)) × T (le one r) ⌝ }
 {
-    let m = number::signs::pick(y < 0.0, -y, y);
-    number::signs::pick(s < m, m, s)
+    let m = signs::pick(y < 0.0, -y, y);
+    signs::pick(s < m, m, s)
 }
 
 // The largest of 1 and the corners' magnitudes.

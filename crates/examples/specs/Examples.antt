@@ -7,12 +7,12 @@ use lib.IntN.{pos, negsuc}
 use lib.Ieee.{Float, fin, binary64, ofInt, neg, add, sub, mul, div, lt, le, eq, ne, isNan}
 use Rattle.number.specs.Root.{sqrtOf}
 use Rattle.number.specs.Hypot.{hypotOf}
-use Rattle.number.specs.Signs.{signBit, withSign, absOf, copysignOf, before, maxOf, clampOf}
+use Rattle.signs.specs.Signs.{signBit, withSign, absOf, copysignOf, before, maxOf, clampOf}
 use Rattle.boundary.specs.declared.Point.{Point}
 use Rattle.boundary.specs.declared.Bounds.{Bounds}
 use Rattle.boundary.specs.declared.Near.{Near}
 use Rattle.boundary.specs.declared.Distance.{Distance}
-use Rattle.boundary.specs.Boxes.{boxFits, scaleOf, widenedOf}
+use Rattle.boundary.specs.Boxes.{boxFits, hull, scaleOf, widenedOf}
 use Rattle.boundary.specs.Folds.{run, fold, any, oddly, total}
 use Rattle.boundary.specs.Outline.{vertices, edges}
 use Rattle.boundary.specs.Length.{edgeLength, lengthOf}
@@ -36,13 +36,14 @@ use Rattle.fill.specs.Fill.{xdyOf, fillOf, longOf}
 use Rattle.fill.specs.Answers.{fillTested, filled, fillAnswer}
 use Rattle.sorts.specs.Sort.{insert, sort}
 use Rattle.entries.specs.Entries.{boxAt, wideAt}
-use Rattle.splits.specs.Tree.{hull, hullOf, treeOn, indexOf}
+use Rattle.splits.specs.Tree.{hullOf, treeOn, indexOf}
 use Rattle.meeting.specs.Meeting.{apart, meetingOf}
 use Rattle.set.specs.Set.{startOf, outlineAt, outlinesOf}
 use Rattle.set.specs.Tests.{outlinesTested, sizesTested, setTested}
+use Rattle.search.specs.Least.{magnitudeOf, magnitudeAt, leastOf}
 use Rattle.nearest.specs.declared.Nearest.{Nearest}
 use Rattle.nearest.specs.declared.Nearest.the-variants.{At}
-use Rattle.nearest.specs.Nearest.{magnitudeOf, magnitudeAt, leastOf, nearestIn}
+use Rattle.nearest.specs.Nearest.{nearestIn}
 use Rattle.nearest.specs.Answers.{nearestFor}
 
 -- whole numbers of µm

@@ -1,14 +1,14 @@
 -- An outline's containment, location and bounds, over its edges or vertices (document 01, geometry.rs). Definitions only.
-use mathlib.Core.Bool.{Bool, true, false, _&&_, cond}
+use mathlib.Core.Bool.{Bool, _&&_, cond}
 use mathlib.Core.List.{List}
 use Prim.Native.Nat.{ℕ, _-_}
 use lib.Dec.{eqb}
-use lib.Ieee.{Float, inf, binary64, unlike, add, sub, mul, div, lt, le, eq}
+use lib.Ieee.{Float, binary64, unlike, add, sub, mul, div, lt, le, eq}
 use Rattle.number.specs.Exact.{zeroᶠ}
 use Rattle.boundary.specs.declared.Point.{Point}
 use Rattle.boundary.specs.declared.Edge.{Edge}
 use Rattle.boundary.specs.declared.Bounds.{Bounds}
-use Rattle.boundary.specs.Boxes.{lesser, greater}
+use Rattle.boundary.specs.Boxes.{lesser, greater, hull, nowhere, stretched}
 use Rattle.boundary.specs.Folds.{run, fold, any, oddly}
 use Rattle.boundary.specs.Outline.{count, vertexAt}
 
@@ -54,19 +54,7 @@ unfoldable pub locateOf : List Edge → Point → ℕ
 unfolding any onEdge containsOf
 locateOf es p = cond (any (onEdge p) es) 1 (cond (containsOf es p) 2 0)
 
--- ---- bounds
--- the box with nothing in it
-abbrev pub nowhere : Bounds
-nowhere = record { min = record { x = inf false; y = inf false }; max = record { x = inf true; y = inf true } }
-
--- the box stretched to the point
-unfoldable pub stretched : Bounds → Point → Bounds
-unfolding lt
-stretched b p = record {
-  min = record { x = lesser (b .min .x) (p .x); y = lesser (b .min .y) (p .y) };
-  max = record { x = greater (b .max .x) (p .x); y = greater (b .max .y) (p .y) };
-}
-
+-- ---- bounds: the box of all vertices
 unfoldable pub boundsOf : List Point → Bounds
-unfolding fold stretched
+unfolding fold hull
 boundsOf ps = fold stretched nowhere ps

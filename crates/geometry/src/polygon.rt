@@ -4,8 +4,9 @@ ghost use mathlib.Core.Bool.{cond};
 ghost use Prim.Native.Nat.{_-_, _<_, _≤_};
 ghost use lib.ListN.{length};
 ghost use Rattle.boundary.specs.Folds.{any};
-ghost use Rattle.boundary.specs.Outline.{vertices, edges};
-ghost use Rattle.geometry.specs.Polygon.{crossesOf, containsOf, between, turnOf, onEdge, locateOf, nowhere, stretched, boundsOf};
+ghost use lib.Ieee.{lt};
+ghost use Rattle.boundary.specs.Outline.{count, vertexAt, vertices, edges};
+ghost use Rattle.geometry.specs.Polygon.{crossesOf, containsOf, between, turnOf, onEdge, locateOf, boundsOf};
 ghost use Rattle.geometry.specs.Answers.{areaAnswer, perimeterAnswer, boundsAnswer, containsAnswer, locateAnswer, distanceAnswer};
 ghost use Rattle.geometry.specs.Making.{keptCount, turned, numbers, makeAnswer, madeList};
 ghost use Rattle.accept.specs.Lists.{atFront};
@@ -17,29 +18,41 @@ use accept::refusals;
 use boundary::Bounds;
 use boundary::Edge;
 use boundary::Point;
+use boundary::boxes;
 use boundary::greater_of;
 use boundary::lesser_of;
 
-// Whether the edge counts for p.
-fn crosses(p: Point, e: Edge) -> bool
-    ensures { λ r. ⌜ r ≡ crossesOf p e ⌝ }
+// Whether the edge from vertex j to vertex i counts for p, where `was` and `up` tell whether each is above p.
+fn crosses(v: &[f64], j: usize, i: usize, p: Point, was: bool, up: bool) -> bool
+    requires { ⌜ (j < count (now v)) × (i < count (now v)) × (was ≡ lt (p .y) (vertexAt (now v) j .y)) × (up ≡ lt (p .y) (vertexAt (now v) i .y)) ⌝ }
+    ensures { λ r. ⌜ r ≡ crossesOf p (record { a = vertexAt (now (v .entry)) j; b = vertexAt (now (v .entry)) i }) ⌝ }
 {
-    if (e.b.y > p.y) != (e.a.y > p.y) {
-        p.x < (e.a.x - e.b.x) * (p.y - e.b.y) / (e.a.y - e.b.y) + e.b.x
-    } else {
-        false
+    if up != was {
+        let a = boundary::vertex_at(v, j);
+        let b = boundary::vertex_at(v, i);
+        return p.x < (a.x - b.x) * (p.y - b.y) / (a.y - b.y) + b.x;
     }
+    false
 }
 
-// Whether the outline contains p: whether an odd number of its edges count.
+// Whether the outline contains p: whether an odd number of its edges count. Each vertex is looked at with the one
+// before it, the first with the last.
 pub fn holds(v: &[f64], p: Point) -> bool
     ensures { λ r. ⌜ r ≡ containsOf (edges (now (v .entry))) p ⌝ }
 {
     let n = v.len() / 2;
     let mut inside = false;
+    if n == 0 {
+        return inside;
+    }
+    let mut j = n - 1;
+    let mut was = boundary::vertex_at(v, j).y > p.y;
     let mut i = 0;
     while i < n {
-        inside = inside != crosses(p, boundary::edge_at(v, i));
+        let up = boundary::vertex_at(v, i).y > p.y;
+        inside = inside != crosses(v, j, i, p, was, up);
+        was = up;
+        j = i;
         i += 1;
     }
     inside
@@ -88,42 +101,15 @@ fn location(v: &[f64], p: Point) -> u32
     if holds(v, p) { 2 } else { 0 }
 }
 
-// The box stretched to p.
-pub fn stretch(b: Bounds, p: Point) -> Bounds
-    ensures { λ r. ⌜ r ≡ stretched b p ⌝ }
-{
-    Bounds {
-        min: Point {
-            x: lesser_of(b.min.x, p.x),
-            y: lesser_of(b.min.y, p.y),
-        },
-        max: Point {
-            x: greater_of(b.max.x, p.x),
-            y: greater_of(b.max.y, p.y),
-        },
-    }
-}
-
-// The box with nothing in it.
-pub fn empty_box() -> Bounds
-    ensures { λ r. ⌜ r ≡ nowhere ⌝ }
-{
-    let top = 1.0 / 0.0;
-    Bounds {
-        min: Point { x: top, y: top },
-        max: Point { x: -top, y: -top },
-    }
-}
-
 // The box of the vertices.
 pub fn box_of(v: &[f64]) -> Bounds
     ensures { λ r. ⌜ r ≡ boundsOf (vertices (now (v .entry))) ⌝ }
 {
     let n = v.len() / 2;
-    let mut b = empty_box();
+    let mut b = boxes::empty_box();
     let mut i = 0;
     while i < n {
-        b = stretch(b, boundary::vertex_at(v, i));
+        b = boxes::stretch(b, boundary::vertex_at(v, i));
         i += 1;
     }
     b

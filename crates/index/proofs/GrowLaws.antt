@@ -7,7 +7,7 @@ use native.Mathlib.Nat.{sub-zero}
 use native.Mathlib.Omega.{arith}
 use lib.Dec.{leb, eqb, ltb}
 use lib.ListN.{length, take, drop}
-use lib.Seq.{length-take-le, take-at, drop-at, sets}
+use lib.Seq.{length-take-le, take-at, drop-at, drop-append-add, drop-drop, sets}
 use lib.Ieee.{Float}
 use borrow.Author.Tests.{le-leb, ltb-false, eqb-true}
 use Rattle.boundary.specs.declared.Bounds.{Bounds}
@@ -31,6 +31,13 @@ use Rattle.nodes.proofs.LayoutLaws.{length-below, placed-front}
 -- the first k of a list that begins with F
 pub front-of : {A : Type 0} (s₀ s F : List A) (k : ℕ) → s ≡ sets s₀ 0 F → length F ≡ k → k ≤ length s₀ → take (k - 0) (drop 0 s) ≡ F
 front-of s₀ s F k e l h = rw (e, sets-front s₀ F (omega arith), sub-zero k) (take-at F (drop (length F) s₀) k l)
+
+-- the front is written twice: the longer list stays
+pub front-front : {A : Type 0} (zs xs s : List A) → length xs ≤ length zs → length zs ≤ length s → atFront zs (atFront xs s) ≡ atFront zs s
+unfolding atFront
+front-front zs xs s h l =
+    let k : length zs ≡ length xs + (length zs - length xs) = omega arith in
+    ap (λ (r : List _). zs ++ r) (ap (λ (n : ℕ). drop n (xs ++ drop (length xs) s)) k ∙ drop-append-add xs (drop (length xs) s) (length zs - length xs) ∙ drop-drop (length zs - length xs) (length xs) s ∙ ap (λ (n : ℕ). drop n s) (sym k))
 
 -- numbers from j on ascend
 pub run-ascends : (j k : ℕ) → Sorted leb (run (λ i. i) j k)

@@ -24,7 +24,8 @@ use Rattle.nodes.proofs.TreeLaws.{left, right, times-halves, tree-induct}
 use Rattle.entries.proofs.StoreLaws.{length-run}
 use Rattle.index.proofs.ReadLaws.{Deep, tree-deep}
 use Rattle.index.proofs.GrowLaws.{or-none, boxes-passed, boxes-fit, index-nodes}
-use Rattle.index.proofs.HullLaws.{NumberBox, fits-wide, hull-of-number, hull-of-around, hull-of-within}
+use Rattle.boundary.proofs.AroundLaws.{NumberBox}
+use Rattle.index.proofs.HullLaws.{fits-wide, hull-of-number, hull-of-around, hull-of-within}
 
 -- ---- each item stands in one leaf
 module _ (W : ℕ → Bounds) (C : ℕ → Point) (i : ℕ) where

@@ -17,6 +17,11 @@ pub data Builds (W : ℕ → Bounds) (C : ℕ → Point) : List ℕ → Tree →
   many : {is ys : List ℕ} {l r : Tree} → 4 < length is → Selected (goes (along (alongY C is) C)) (length is / 2) is ys
       → Builds W C (take (length is / 2) ys) l → Builds W C (drop (length is / 2) ys) r → Builds W C is (inner (hullOf W is) l r)
 
+-- a tree that it may give over them
+pub record BuiltTree (W : ℕ → Bounds) (C : ℕ → Point) (is : List ℕ) : Type 0 where
+  pub tree : Tree
+  pub builds : Builds W C is tree
+
 -- the tree with each leaf's items in ascending order
 unfoldable pub ascended : Tree → Tree
 unfolding sort

@@ -1,4 +1,5 @@
 // The box tree (index.rs): a tree over boxes, built in lent buffers.
+pub mod answers;
 pub mod refusals;
 pub mod tree;
 
@@ -6,6 +7,13 @@ ghost use mathlib.Core.Path.{_≡_};
 ghost use Rattle.index.specs.Answers.{buildAnswer, builtCorners, builtLinks, builtItems};
 use accept::Refusal;
 use accept::Test;
+
+// What building returns, and what it puts into its answer fields.
+pub struct Fields {
+    pub number: u32,
+    pub nodes: u32,
+    pub items: u32,
+}
 
 // What building answers: how many nodes and items there are.
 pub enum Built {

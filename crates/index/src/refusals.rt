@@ -5,8 +5,7 @@ ghost use Prim.Native.Nat.{_≤_};
 ghost use Rattle.boundary.specs.Folds.{any};
 ghost use Rattle.entries.specs.Entries.{boxCount, boxesOf};
 ghost use Rattle.boundary.specs.Boxes.{boxFits};
-ghost use Rattle.index.specs.Answers.{boxesTested, shortIndex, buildTested, builtNumber, nodesIn, itemsIn};
-use crate::Built;
+ghost use Rattle.index.specs.Answers.{boxesTested, shortIndex, buildTested};
 use accept::Refusal;
 use accept::Test;
 use accept::refusals::box_fits;
@@ -55,32 +54,4 @@ pub fn build_tested(boxes: &[f64], corners: usize, links: usize, items: usize) -
     ensures { λ r. ⌜ r ≡ buildTested (now (boxes .entry)) corners links items ⌝ }
 {
     room_tested(short_index(corners, links, items), boxes_tested(boxes))
-}
-
-// What building returns, and the counts that it answers: a refusal gives its number, and zeros.
-pub fn built_number(b: Built) -> u32
-    ensures { λ r. ⌜ r ≡ builtNumber b ⌝ }
-{
-    match b {
-        Built::Refused(r) => accept::refusals::number_of(r),
-        Built::Sized(_, _) => 0,
-    }
-}
-
-pub fn nodes_in(b: Built) -> u32
-    ensures { λ r. ⌜ r ≡ nodesIn b ⌝ }
-{
-    match b {
-        Built::Refused(_) => 0,
-        Built::Sized(n, _) => n,
-    }
-}
-
-pub fn items_in(b: Built) -> u32
-    ensures { λ r. ⌜ r ≡ itemsIn b ⌝ }
-{
-    match b {
-        Built::Refused(_) => 0,
-        Built::Sized(_, k) => k,
-    }
 }

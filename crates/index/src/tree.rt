@@ -7,7 +7,7 @@ ghost use Rattle.entries.specs.Entries.{boxCount, wideAt};
 ghost use Rattle.splits.specs.Tree.{hullOf, indexOf};
 ghost use Rattle.index.specs.Answers.{Stored, Accepted};
 use boundary::Bounds;
-use geometry::polygon;
+use boundary::boxes;
 
 // The tree over all boxes, built with lent space for what the build reads.
 fn grow_in(
@@ -52,10 +52,10 @@ fn hull_wide(boxes: &[f64]) -> Bounds
     ensures { λ r. ⌜ r ≡ hullOf (wideAt (now (boxes .entry))) (run (λ i. i) 0 (boxCount (now (boxes .entry)))) ⌝ }
 {
     let n = boxes.len() / 4;
-    let mut b = polygon::empty_box();
+    let mut b = boxes::empty_box();
     let mut i = 0;
     while i < n {
-        b = splits::around(b, entries::widened(entries::box_at(boxes, i)));
+        b = boxes::around(b, entries::widened(entries::box_at(boxes, i)));
         i += 1;
     }
     b

@@ -5,8 +5,7 @@ use mathlib.Core.List.{List, [], _∷_, _++_, flatMap}
 use Prim.Native.Nat.{ℕ, zero, suc, _+_, _-_, _≤_, _<_}
 use native.Mathlib.Omega.{arith}
 use lib.Dec.{T, eqb, ltb}
-use lib.ListN.{length, drop, length-append, length-replicate}
-use lib.Seq.{drop-append-add, drop-drop}
+use lib.ListN.{length, length-append, length-replicate}
 use lib.Ieee.{Float, lt, le}
 use borrow.Author.Tests.{eqb-true, eqb-false, ltb-false}
 use Rattle.number.specs.Exact.{zeroᶠ}
@@ -23,7 +22,7 @@ use Rattle.splits.specs.Tree.{Tree, leaf, inner, indexOf, itemsOf}
 use Rattle.nodes.specs.Layout.{extra, nodeOf, nodesOf, cornersOf, linksOf}
 use Rattle.index.specs.Answers.{boxesTested, shortIndex, Stored, Accepted}
 use Rattle.entries.proofs.StoreLaws.{sets-front, flat-length}
-use Rattle.index.proofs.GrowLaws.{length-index-items, index-nodes, or-none, accepted-of}
+use Rattle.index.proofs.GrowLaws.{front-front, length-index-items, index-nodes, or-none, accepted-of}
 use Rattle.index.proofs.ReadLaws.{Holds, holds-first, holds-second, stored-holds, Deep}
 use Rattle.index.proofs.Theorems.{rootBox, Nested, nested, index-deep}
 use Rattle.meeting.specs.Meeting.{apart, meetingOf, visitedOf}
@@ -137,13 +136,6 @@ module _ (c : Bounds) where
 no-items : (xs : List ℕ) → length xs ≤ 0 → xs ≡ []
 no-items [] h = refl
 no-items (x ∷ xs) h = absurd (omega arith)
-
--- the front is written twice: the longer list stays
-pub front-front : {A : Type 0} (zs xs s : List A) → length xs ≤ length zs → length zs ≤ length s → atFront zs (atFront xs s) ≡ atFront zs s
-unfolding atFront
-front-front zs xs s h l =
-    let k : length zs ≡ length xs + (length zs - length xs) = omega arith in
-    ap (λ (r : List _). zs ++ r) (ap (λ (n : ℕ). drop n (xs ++ drop (length xs) s)) k ∙ drop-append-add xs (drop (length xs) s) (length zs - length xs) ∙ drop-drop (length zs - length xs) (length xs) s ∙ ap (λ (n : ℕ). drop n s) (sym k))
 
 module _ (v : List Float) (c : Bounds) (passed : boxesTested v ≡ Passed) (C : List Float) (L is : List ℕ) where
   -- the walk finds what `meeting` says

@@ -18,10 +18,6 @@ use Rattle.splits.specs.Tree.{indexOf}
 use Rattle.index.specs.Answers.{boxesTested, shortIndex}
 use Rattle.meeting.specs.Meeting.{meetingOf}
 
--- the cell of a call's four numbers
-abbrev pub cellOf : Float → Float → Float → Float → Bounds
-cellOf left bottom right top = record { min = record { x = left; y = bottom }; max = record { x = right; y = top } }
-
 -- tests 4, 11 and 13; the list has 1,024 places
 unfoldable pub meetingTested : List Float → Bounds → ℕ → ℕ → ℕ → ℕ → Test
 unfolding boxesTested cellTested roomTested

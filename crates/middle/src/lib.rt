@@ -2,6 +2,8 @@
 // middle item. Whoever uses the guess tests it, so nothing is promised of it.
 ghost use Prim.Native.Nat.{_≤_};
 ghost use lib.ListN.{length};
+use boundary::greater_of;
+use boundary::lesser_of;
 
 // A key, and a number: of the items with this key, those below the number go before the pivot.
 pub struct Pivot {
@@ -91,31 +93,23 @@ struct Four {
     d: f64,
 }
 
-fn low(x: f64, y: f64) -> f64 {
-    number::signs::pick(y < x, y, x)
-}
-
-fn high(x: f64, y: f64) -> f64 {
-    number::signs::pick(x < y, y, x)
-}
-
 // The lesser ones of those that stand two apart, then the greater ones.
 fn crossed(s: Four) -> Four {
     Four {
-        a: low(s.a, s.c),
-        b: low(s.b, s.d),
-        c: high(s.a, s.c),
-        d: high(s.b, s.d),
+        a: lesser_of(s.a, s.c),
+        b: lesser_of(s.b, s.d),
+        c: greater_of(s.a, s.c),
+        d: greater_of(s.b, s.d),
     }
 }
 
 // Both pairs in order.
 fn paired(s: Four) -> Four {
     Four {
-        a: low(s.a, s.b),
-        b: high(s.a, s.b),
-        c: low(s.c, s.d),
-        d: high(s.c, s.d),
+        a: lesser_of(s.a, s.b),
+        b: greater_of(s.a, s.b),
+        c: lesser_of(s.c, s.d),
+        d: greater_of(s.c, s.d),
     }
 }
 
@@ -127,39 +121,39 @@ fn straight(s: Four) -> Four {
 // Four keys in order.
 fn ordered(s: Four) -> Four {
     straight(Four {
-        a: low(s.a, s.b),
-        b: high(s.a, s.b),
-        c: high(s.c, s.d),
-        d: low(s.c, s.d),
+        a: lesser_of(s.a, s.b),
+        b: greater_of(s.a, s.b),
+        c: greater_of(s.c, s.d),
+        d: lesser_of(s.c, s.d),
     })
 }
 
 // The four lesser keys of two fours in order: they rise and then fall.
 fn lower(s: Four, t: Four) -> Four {
     Four {
-        a: low(s.a, t.d),
-        b: low(s.b, t.c),
-        c: low(s.c, t.b),
-        d: low(s.d, t.a),
+        a: lesser_of(s.a, t.d),
+        b: lesser_of(s.b, t.c),
+        c: lesser_of(s.c, t.b),
+        d: lesser_of(s.d, t.a),
     }
 }
 
 // The four greater ones: they fall and then rise.
 fn upper(s: Four, t: Four) -> Four {
     Four {
-        a: high(s.a, t.d),
-        b: high(s.b, t.c),
-        c: high(s.c, t.b),
-        d: high(s.d, t.a),
+        a: greater_of(s.a, t.d),
+        b: greater_of(s.b, t.c),
+        c: greater_of(s.c, t.b),
+        d: greater_of(s.d, t.a),
     }
 }
 
 fn least(s: Four) -> f64 {
-    low(low(s.a, s.b), low(s.c, s.d))
+    lesser_of(lesser_of(s.a, s.b), lesser_of(s.c, s.d))
 }
 
 fn most(s: Four) -> f64 {
-    high(high(s.a, s.b), high(s.c, s.d))
+    greater_of(greater_of(s.a, s.b), greater_of(s.c, s.d))
 }
 
 // The key of the item at i of part, `none` past the end.
@@ -224,8 +218,8 @@ fn of_sixteen(keys: &[f64], part: &[u32], r: usize) -> Found
     let b = straight(upper(y, z));
     let c = straight(upper(w, x));
     let d = straight(lower(y, z));
-    let v = low(least(upper(a, b)), least(upper(c, d)));
-    let g = high(most(lower(a, b)), most(lower(c, d)));
+    let v = lesser_of(least(upper(a, b)), least(upper(c, d)));
+    let g = greater_of(most(lower(a, b)), most(lower(c, d)));
     with_ties(keys, part, r, v, g)
 }
 
@@ -348,7 +342,7 @@ fn window(keys: &[f64], l: f64, h: f64, list: &[u32], work: &mut [u32]) -> Near
 
 // How far from the middle of the keys' range the middle item is looked for first, in parts of the range.
 fn margin(n: usize) -> f64 {
-    number::signs::pick(n <= 32, 0.2, number::signs::pick(n <= 256, 0.1, 0.05))
+    signs::pick(n <= 32, 0.2, signs::pick(n <= 256, 0.1, 0.05))
 }
 
 // The item in the middle of many: first near the middle of the keys' range.

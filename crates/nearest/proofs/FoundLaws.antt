@@ -12,12 +12,11 @@ use Rattle.splits.specs.Tree.{Tree, indexOf, itemsOf}
 use Rattle.nodes.specs.Layout.{nodesOf, cornersOf, linksOf}
 use Rattle.index.specs.Answers.{Stored}
 use Rattle.entries.proofs.StoreLaws.{flat-length}
-use Rattle.index.proofs.GrowLaws.{front-of, length-index-items, index-nodes}
-use Rattle.meeting.proofs.MeetingLaws.{front-front}
+use Rattle.index.proofs.GrowLaws.{front-of, front-front, length-index-items, index-nodes}
 use Rattle.set.specs.Set.{setBoxes}
 use Rattle.set.specs.Answers.{Ready}
 use Rattle.set.proofs.SetLaws.{boxes-length}
-use Rattle.nearest.specs.Walk.{Indexed}
+use Rattle.search.specs.Walk.{Indexed}
 use Rattle.nearest.specs.Answers.{Cleared}
 
 module _ (v : List Float) (cs : List ℕ) (C : List Float) (L I : List ℕ) (ready : Ready v cs (length C) (length L) (length I)) (B₀ B : List Float) (room : 4 * length cs ≤ length B₀) (e : B ≡ sets B₀ 0 (setBoxes v cs)) where

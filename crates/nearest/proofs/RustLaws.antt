@@ -10,7 +10,7 @@ use lib.Dec.{T, eqb, ltb}
 use lib.ListN.{length}
 use lib.Ieee.{Float, lt, le, eq, isNan}
 use lib.Ieee.Bits.{is-true}
-use Rattle.number.specs.Signs.{signBit}
+use Rattle.signs.specs.Signs.{signBit}
 use Rattle.number.proofs.OrderLaws.{le-through, below-through, below-le, below-not-le, not-below, level-le}
 use Rattle.boundary.specs.declared.Point.{Point}
 use Rattle.boundary.specs.declared.Bounds.{Bounds}
@@ -21,19 +21,21 @@ use Rattle.sorts.specs.Sort.{times, In}
 use Rattle.sorts.proofs.SortLaws.{times-append}
 use Rattle.splits.specs.Tree.{Tree, leaf, inner, indexOf, itemsOf, EachNode}
 use Rattle.nodes.specs.Layout.{extra}
-use Rattle.index.proofs.HullLaws.{Number, in-cons, in-first, in-rest}
+use Rattle.boundary.proofs.AroundLaws.{Number}
+use Rattle.index.proofs.HullLaws.{in-cons, in-first, in-rest}
 use Rattle.index.proofs.Theorems.{items-once}
 use Rattle.set.specs.Set.{setBoxes, Fit}
 use Rattle.set.proofs.SetLaws.{boxes-length}
-use Rattle.nearest.specs.declared.Best.{Best}
+use Rattle.search.specs.declared.Best.{Best}
+use Rattle.search.specs.Least.{magnitudeAt, leastOf}
+use Rattle.search.specs.Walk.{improved, bestOf, Doubles}
+use Rattle.search.proofs.LeastLaws.{Upto, Among, among-this, upto-this, best-is, least-of, least-only}
+use Rattle.search.proofs.GapLaws.{Gapped, Nearby, magnitude-number, index-gaps}
+use Rattle.search.proofs.SetSearch.{gap-number}
 use Rattle.nearest.specs.declared.Nearest.{Nearest}
 use Rattle.nearest.specs.declared.Nearest.the-variants.{Refused, None, At}
-use Rattle.nearest.specs.Nearest.{magnitudeAt, leastOf, nearestIn}
-use Rattle.nearest.specs.Walk.{improved, bestOf, Doubles}
+use Rattle.nearest.specs.Nearest.{nearestIn}
 use Rattle.nearest.specs.Rust.{Waiting, boxIn, waitingFor, sooner, Out, leastOut, chosen, looked, opened, tooFar, walkOn, walkOf}
-use Rattle.nearest.proofs.LeastLaws.{Upto, Among, among-this, upto-this, best-is, least-of, least-only}
-use Rattle.nearest.proofs.GapLaws.{Gapped, Nearby, magnitude-number, index-gaps}
-use Rattle.nearest.proofs.SetSearch.{gap-number}
 
 -- ---- lists of nodes that wait: what holds of each, and sums
 data All (P : Waiting → Type 0) : List Waiting → Type 0 where

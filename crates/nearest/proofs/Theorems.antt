@@ -7,17 +7,18 @@ use native.Mathlib.Omega.{arith}
 use borrow.Author.Tests.{eqb-true, ne-eqb}
 use lib.Dec.{eqb}
 use lib.ListN.{length}
-use lib.Ieee.{Float, lt, eq}
+use lib.Ieee.{Float, eq}
 use Rattle.number.proofs.OrderLaws.{le-not-below, level-le}
 use Rattle.boundary.specs.declared.Point.{Point}
 use Rattle.boundary.specs.Boxes.{FieldPoint}
 use Rattle.set.specs.Set.{Fit}
-use Rattle.nearest.specs.declared.Best.{Best}
+use Rattle.search.specs.declared.Best.{Best}
+use Rattle.search.specs.Least.{magnitudeAt, leastOf}
+use Rattle.search.specs.Walk.{Doubles}
+use Rattle.search.proofs.LeastLaws.{Upto, Least, least-of}
+use Rattle.search.proofs.GapLaws.{magnitude-number}
 use Rattle.nearest.specs.declared.Nearest.the-variants.{None, At}
-use Rattle.nearest.specs.Nearest.{magnitudeAt, leastOf, nearestIn, NearestIs}
-use Rattle.nearest.specs.Walk.{Doubles}
-use Rattle.nearest.proofs.LeastLaws.{Upto, Least, least-of}
-use Rattle.nearest.proofs.GapLaws.{magnitude-number}
+use Rattle.nearest.specs.Nearest.{nearestIn, NearestIs}
 
 module _ (v : List Float) (cs : List ℕ) (p : Point) where
   differs : (b : Best) (k : ℕ) → Upto (magnitudeAt v cs p) b k → k < b .outline → (t : Bool) → eq (magnitudeAt v cs p k) (b .distance) ≡ t → t ≡ false

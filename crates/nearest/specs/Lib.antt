@@ -2,8 +2,6 @@
 
 -- The nearest outline of a set.
 pub mod Nearest
--- The search: what it reads, and how it takes the better of two.
-pub mod Walk
 -- What the call answers and leaves.
 pub mod Answers
 -- The walk in the Rust's own names and order.

@@ -13,10 +13,10 @@ use Rattle.sorts.specs.Keys.{totalLess}
 use Rattle.splits.specs.Tree.{Tree, leaf, inner, indexOf}
 use Rattle.nodes.specs.Layout.{extra}
 use Rattle.set.specs.Set.{setBoxes}
+use Rattle.search.specs.Least.{magnitudeOf, magnitudeAt}
+use Rattle.search.specs.Walk.{improved}
 use Rattle.nearest.specs.declared.Nearest.{Nearest}
 use Rattle.nearest.specs.declared.Nearest.the-variants.{Refused, None, At}
-use Rattle.nearest.specs.Nearest.{magnitudeOf, magnitudeAt}
-use Rattle.nearest.specs.Walk.{improved}
 
 -- a node that waits: its gap, its number, the first number of those below it, and its tree
 pub record Waiting : Type 0 where

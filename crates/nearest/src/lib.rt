@@ -2,38 +2,21 @@
 pub mod answers;
 
 ghost use mathlib.Core.Path.{_≡_};
-ghost use mathlib.Core.Bool.{true, false, not};
-ghost use Prim.Native.Nat.{ℕ, _+_, _*_, _≤_, _<_, _^_};
-ghost use lib.Dec.{T};
+ghost use mathlib.Core.Bool.{true};
+ghost use Prim.Native.Nat.{_*_, _≤_, _<_};
 ghost use lib.ListN.{length};
-ghost use lib.Ieee.{binary64, fits};
-ghost use Rattle.boundary.specs.Boxes.{inField, pointInField, gapAlong, gapOf};
-ghost use Rattle.boundary.specs.Folds.{run, any};
-ghost use Rattle.distance.specs.Nearest.{nearestOf};
-ghost use Rattle.boundary.specs.Outline.{count, edges};
-ghost use Rattle.heap.specs.Order.{Number};
-ghost use Rattle.heap.specs.Heap.{entryAt, Heaped};
-ghost use Rattle.sorts.specs.Sort.{In};
-ghost use Rattle.entries.specs.Entries.{boxAt};
-ghost use Rattle.nodes.specs.Layout.{itemAt};
+ghost use Rattle.boundary.specs.Boxes.{pointInField};
 ghost use Rattle.set.specs.Answers.{Ready, clearedCorners, clearedLinks, clearedItems};
-ghost use Rattle.nearest.specs.Nearest.{magnitudeAt, leastOf, nearestIn};
-ghost use Rattle.nearest.specs.Walk.{improved, bestOf, Doubles, Asked, Indexed, Opened, entryFor};
+ghost use Rattle.search.specs.Least.{magnitudeAt, leastOf};
+ghost use Rattle.nearest.specs.Nearest.{nearestIn};
 ghost use Rattle.nearest.specs.Answers.{nearestAnswer, Cleared};
 use accept::Refusal;
 use accept::Test;
 use accept::lists;
 use boundary::Point;
-use number::root::hypot;
-use number::signs::max;
+use search::Best;
 use set::outlines;
 use set::refusals::query_tested;
-
-// An outline's number, and the magnitude of its distance.
-pub struct Best {
-    pub outline: u32,
-    pub distance: f64,
-}
 
 // What the query returns, and what it puts into its answer fields.
 pub struct Fields {
@@ -48,178 +31,6 @@ pub enum Nearest {
     Refused(Refusal),
     None,
     At(Best),
-}
-
-// How far p is outside lo to hi, of one axis.
-fn gap_along(lo: f64, hi: f64, p: f64) -> f64
-    ensures { λ r. ⌜ r ≡ gapAlong lo hi p ⌝ }
-{
-    max(max(lo - p, p - hi), 0.0)
-}
-
-// How far p is outside the box of the node n.
-fn gap(corners: &[f64], n: u32, p: Point) -> f64
-    ensures { λ r. ⌜ r ≡ gapOf (boxAt (now (corners .entry)) n) p ⌝ }
-{
-    let b = entries::box_at(corners, n as usize);
-    let x = gap_along(b.min.x, b.max.x, p.x);
-    hypot(x, gap_along(b.min.y, b.max.y, p.y))
-}
-
-// The better of the best so far and outline k, at the distance d.
-fn improve(best: Best, k: u32, d: f64) -> Best
-    ensures { λ r. ⌜ r ≡ improved best k d ⌝ }
-{
-    let tie = (d == best.distance) & (k < best.outline);
-    if (d < best.distance) | tie {
-        return Best {
-            outline: k,
-            distance: d,
-        };
-    }
-    best
-}
-
-// A number that is held is an `f64`.
-fn held(x: f64)
-    ensures { λ _. ⌜ T (fits binary64 x) ⌝ }
-{}
-
-// So every number of a list is. The loop does nothing else.
-fn all_held(v: &[f64])
-    ensures { λ _. ⌜ Doubles (now (v .entry)) ⌝ }
-{
-    let mut i = 0;
-    while i < v.len() {
-        held(entries::number_at(v, i));
-        i += 1;
-    }
-}
-
-// The distance of the outline's nearest edge.
-fn edge_distance(o: &[f64], p: Point) -> f64
-    requires { ⌜ (any (λ x. not (inField x)) (now o) ≡ false) × (pointInField p ≡ true) × (0 < count (now o)) ⌝ }
-    ensures { λ r. ⌜ r ≡ nearestOf (edges (now (o .entry))) p .d ⌝ }
-{
-    let f = distance::nearest::nearest_edge(o, p);
-    let q = f.q;
-    hypot(p.x - q.x, p.y - q.y)
-}
-
-// The magnitude of the distance of outline k.
-fn magnitude(v: &[f64], counts: &[u32], starts: &[u32], k: u32, p: Point) -> f64
-    requires { ⌜ Asked (now v) (now counts) (now starts) p × (k < length (now counts)) ⌝ }
-    ensures { λ r. ⌜ r ≡ magnitudeAt (now (v .entry)) (now (counts .entry)) p k ⌝ }
-{
-    let at = 2 * (sorts::at(starts, k as usize) as usize);
-    let end = at + 2 * (sorts::at(counts, k as usize) as usize);
-    edge_distance(&v[at..end], p)
-}
-
-// The best of it and a leaf's outlines.
-fn look(
-    v: &[f64],
-    counts: &[u32],
-    starts: &[u32],
-    items: &[u32],
-    first: u32,
-    count: u32,
-    p: Point,
-    start: Best,
-) -> Best
-    requires { ⌜ Asked (now v) (now counts) (now starts) p × ((i : ℕ) → In i (run (itemAt (now items)) first count) → i < length (now counts)) ⌝ }
-    ensures { λ r. ⌜ r ≡ bestOf (magnitudeAt (now (v .entry)) (now (counts .entry)) p) start (run (itemAt (now (items .entry))) first count) ⌝ }
-{
-    let mut best = start;
-    let mut i = 0;
-    while i < count {
-        let k = sorts::at(items, (first as usize) + (i as usize));
-        best = improve(best, k, magnitude(v, counts, starts, k, p));
-        i += 1;
-    }
-    best
-}
-
-// The nodes first and first + 1 wait.
-fn wait_both(corners: &[f64], p: Point, first: u32, nodes: &mut [u32], gaps: &mut [f64], n: usize)
-    requires { ⌜ ((n + 1 < length (now nodes)) × (n + 1 < length (now gaps))) × (first + 1 < 2 ^ 32) × (Heaped (entryAt (now nodes) (now gaps)) n
-        × (Number (entryFor (now corners) p first) × Number (entryFor (now corners) p (first + 1)))) ⌝ }
-    ensures { λ _. ⌜ Opened (entryAt (now (nodes .entry)) (now (gaps .entry))) n (entryFor (now (corners .entry)) p first) (entryFor (now (corners .entry)) p (first + 1)) (entryAt (now (nodes .exit)) (now (gaps .exit))) ⌝ }
-{
-    heap::push(nodes, gaps, n, first, gap(corners, first, p));
-    let second = first + 1;
-    heap::push(nodes, gaps, n + 1, second, gap(corners, second, p));
-}
-
-// The nearest of the set's outlines, by a search of its index: the nodes that wait are in a heap, and the
-// search ends where the least gap is above the best distance.
-fn search_in(
-    v: &[f64],
-    counts: &[u32],
-    starts: &[u32],
-    p: Point,
-    corners: &[f64],
-    links: &[u32],
-    items: &[u32],
-    nodes: &mut [u32],
-    gaps: &mut [f64],
-) -> Best
-    requires { ⌜ Asked (now v) (now counts) (now starts) p × Indexed (now v) (now counts) (now corners) (now links) (now items)
-        × (0 < length (now counts)) × (length (now nodes) ≡ 512) × (length (now gaps) ≡ 512) ⌝ }
-    ensures { λ r. ⌜ r ≡ leastOf (magnitudeAt (now (v .entry)) (now (counts .entry)) p) (length (now (counts .entry))) ⌝ }
-{
-    heap::push(nodes, gaps, 0, 0, gap(corners, 0, p));
-    let mut best = Best {
-        outline: counts.len() as u32,
-        distance: 1.0 / 0.0,
-    };
-    let mut n = 1;
-    while n > 0 {
-        let e = heap::pop(nodes, gaps, n);
-        if e.gap > best.distance {
-            return best;
-        }
-        n -= 1;
-        let k = 2 * (e.node as usize);
-        let first = sorts::at(links, k);
-        let count = sorts::at(links, k + 1);
-        if count > 0 {
-            best = look(v, counts, starts, items, first, count, p, best);
-        } else {
-            wait_both(corners, p, first, nodes, gaps, n);
-            n += 2;
-        }
-    }
-    best
-}
-
-// The same, with its own space for the heap.
-fn search(
-    v: &[f64],
-    counts: &[u32],
-    starts: &[u32],
-    p: Point,
-    corners: &[f64],
-    links: &[u32],
-    items: &[u32],
-) -> Best
-    requires { ⌜ Asked (now v) (now counts) (now starts) p × Indexed (now v) (now counts) (now corners) (now links) (now items)
-        × (0 < length (now counts)) ⌝ }
-    ensures { λ r. ⌜ r ≡ leastOf (magnitudeAt (now (v .entry)) (now (counts .entry)) p) (length (now (counts .entry))) ⌝ }
-{
-    let mut nodes = [0; 512];
-    let mut gaps = [0.0; 512];
-    search_in(
-        v,
-        counts,
-        starts,
-        p,
-        corners,
-        links,
-        items,
-        &mut nodes,
-        &mut gaps,
-    )
 }
 
 // Zeros in the nodes and items of the working buffers.
@@ -250,12 +61,12 @@ fn found_in(
         × Cleared (now (corners .entry)) (now (links .entry)) (now (items .entry)) (now (corners .exit)) (now (links .exit)) (now (items .exit)) ⌝ }
 {
     let n = 4 * counts.len();
-    all_held(v);
+    search::all_held(v);
     outlines::put_boxes(v, counts, boxes);
     outlines::put_starts(counts, starts);
     let b = &boxes[..];
     index::tree::grow(&b[0..n], corners, links, items);
-    let best = search(v, counts, starts, p, corners, links, items);
+    let best = search::search(v, counts, starts, p, corners, links, items);
     clear(corners, links, items);
     best
 }

@@ -4,13 +4,15 @@ use mathlib.Core.Bool.{not}
 use mathlib.Core.Logic.{_⊎_, inl, inr}
 use lib.IntN.{pos}
 use lib.Dec.{T}
-use lib.Ieee.{Float, nan, inf, fin, binary64, add, mul, le, isNan}
+use lib.Ieee.{Float, nan, inf, fin, binary64, add, mul, le, isNan, fits}
+use lib.Ieee.Fits.{add-fits}
 use Rattle.number.specs.Exact.{zeroᶠ}
 use Rattle.number.specs.Root.{sqrtOf, Plus, plus-inf, plus-fin}
-use Rattle.number.specs.Signs.{absOf}
+use Rattle.signs.specs.Signs.{absOf}
 use Rattle.number.specs.Hypot.{hypotOf}
 use Rattle.number.proofs.PlusLaws.{zero-le, plus-not-nan, add-swap, square-abs, add-plus, add-mono, square-plus, square-mono}
 use Rattle.number.proofs.SqrtLaws.{sqrt-plus, sqrt-mono}
+use Rattle.number.proofs.CloseRoot.{sqrt-fits}
 
 -- ---- the signs do not matter, nor does the order of the two
 pub hypot-signs : (a b : Float) → hypotOf a b ≡ hypotOf (absOf a) (absOf b)
@@ -22,6 +24,11 @@ unfolding hypotOf
 hypot-swap a b = ap sqrtOf (add-swap binary64 (mul binary64 a a) (mul binary64 b b))
 
 -- ---- what it can be
+-- a double
+pub hypot-fits : (a b : Float) → T (fits binary64 (hypotOf a b))
+unfolding hypotOf
+hypot-fits a b = sqrt-fits (add binary64 (mul binary64 a a) (mul binary64 b b)) (add-fits binary64 (mul binary64 a a) (mul binary64 b b))
+
 -- a magnitude has no minus sign
 pub nan-or-plus : (a : Float) → (a ≡ nan) ⊎ Plus (absOf a)
 unfolding absOf

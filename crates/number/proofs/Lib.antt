@@ -31,8 +31,6 @@ pub mod HypotAxis
 pub mod HypotError
 -- Which of two is less, by the sums of the squares.
 pub mod HypotClear
--- ---- signs
-pub mod SignLaws
 -- ---- what those rest on
 pub mod Basics
 pub mod Tests

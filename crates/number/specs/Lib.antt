@@ -4,8 +4,6 @@
 pub mod Root
 -- The length of (a, b).
 pub mod Hypot
--- Absolute value, copysign, minimum, maximum, clamp.
-pub mod Signs
 -- Which fraction of whole numbers a float is.
 pub mod Exact
 -- What one rounding gives.

@@ -1,3 +1,2 @@
 // The number layer: what the geometry computes with besides the operators on floats.
 pub mod root;
-pub mod signs;

@@ -6,9 +6,9 @@ ghost use lib.Dec.{ltb};
 ghost use lib.Ieee.{le, lt};
 ghost use Rattle.number.specs.Root.{rootOf, sqrtOf, Near};
 ghost use Rattle.number.specs.Hypot.{hypotOf, squareLeast, squareEnd, clearlyLess, clearLimit, Short};
-ghost use Rattle.number.specs.Signs.{absOf};
-use crate::signs::abs;
-use crate::signs::pick;
+ghost use Rattle.signs.specs.Signs.{absOf};
+use signs::abs;
+use signs::pick;
 use std::num::wrapping_sub_u64;
 
 // 2^-511 and 2^512.
@@ -130,8 +130,18 @@ fn nearest_root(d: u64, q: u64) -> u64
     bisect(d)
 }
 
-// The root of c * 2^(w + 52) / 2^1200, rounded once: the guess at the root of the number whose bits are i, where
-// that has the right exponent and a check proves its digits, or else the digits' nearest root.
+// The root of c * 2^(w + 52) / 2^1200, rounded once. Its digits are the guess q where a check proves them, or else those
+// of the nearest root.
+fn root_by_digits(c: u64, w: u64, q: u64) -> f64
+    requires { ⌜ (2 ^ 52 ≤ c) × (c < 2 ^ 53) × (2 ≤ w) × (w ≤ 2119) × (2 ^ 52 ≤ q) × (q < 2 ^ 53) ⌝ }
+    ensures { λ r. ⌜ r ≡ rootOf (c * 2 ^ (w + 52)) ⌝ }
+{
+    let d = c * (1 + w % 2);
+    f64::from_bits((w / 2 + 474) * 0x10_0000_0000_0000 + nearest_root(d, q))
+}
+
+// The same. The guess at the root of the number whose bits are i is the answer where it has the right exponent and a
+// check proves its digits.
 fn root_of(c: u64, w: u64, i: u64) -> f64
     requires { ⌜ (2 ^ 52 ≤ c) × (c < 2 ^ 53) × (2 ≤ w) × (w ≤ 2119) × (i ≤ 2047 * 2 ^ 52) ⌝ }
     ensures { λ r. ⌜ r ≡ rootOf (c * 2 ^ (w + 52)) ⌝ }
@@ -146,9 +156,9 @@ fn root_of(c: u64, w: u64, i: u64) -> f64
                 return f64::from_bits(r);
             }
         }
-        return f64::from_bits((w / 2 + 474) * 0x10_0000_0000_0000 + nearest_root(d, q));
+        return root_by_digits(c, w, q);
     }
-    f64::from_bits((w / 2 + 474) * 0x10_0000_0000_0000 + bisect(d))
+    root_by_digits(c, w, 0x10_0000_0000_0000)
 }
 
 // The double nearest to the exact root.

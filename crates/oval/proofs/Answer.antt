@@ -8,7 +8,7 @@ use lib.Ieee.{Float, binary64, add, sub, neg, le, fits}
 use lib.Ieee.Fits.{and-l, and-r, sub-fits}
 use Rattle.number.specs.Exact.{zeroᶠ}
 use Rattle.number.specs.Hypot.{hypotOf}
-use Rattle.number.specs.Signs.{absOf}
+use Rattle.signs.specs.Signs.{absOf}
 use Rattle.boundary.specs.declared.Point.{Point}
 use Rattle.boundary.specs.declared.Distance.{Distance}
 use Rattle.pieces.specs.Ellipse.{ellipseNearest, ellipseNear}
@@ -23,7 +23,8 @@ use Rattle.accept.specs.Answers.{answerFor}
 use Rattle.accept.proofs.TestLaws.{never, passes-else, point-passed}
 use Rattle.boundary.specs.Boxes.{inField, pointInField}
 use Rattle.oval.specs.Ellipse.{axisFits, offsetFits, ellipseFits, ellipseTested, ellipseAnswer}
-use Rattle.oval.specs.Oval.{Offset, FitsPoint, OvalAnswer, lessCentre}
+use Rattle.boundary.specs.Line.{lessPoint}
+use Rattle.oval.specs.Oval.{Offset, FitsPoint, OvalAnswer}
 use Rattle.oval.proofs.Ranges.{Ranged, Bounded, power, tested-range, sum-range, difference-range, abs-range, hypot-range}
 use Rattle.oval.proofs.Nearest.{Found, ellipse-found}
 
@@ -61,7 +62,7 @@ length-range : {x y : Float} → Bounded 94 x → Bounded 94 y → Ranged zero�
 unfolding hypotOf absOf neg le fits
 length-range X Y = hypot-range zeroᶠ zeroᶠ refl refl X Y tt tt tt
 
-module _ {c p : Point} {a b : Float} (Cx : InField (c .x)) (Cy : InField (c .y)) (Px : InField (p .x)) (Py : InField (p .y)) (F : Found (lessCentre c p) (ellipseNearest a b (lessCentre c p))) where
+module _ {c p : Point} {a b : Float} (Cx : InField (c .x)) (Cy : InField (c .y)) (Px : InField (p .x)) (Py : InField (p .y)) (F : Found (lessPoint p c) (ellipseNearest a b (lessPoint p c))) where
   near-answer : OvalAnswer c a b p (record { d = ellipseNear c a b p .d; v = ellipseNear c a b p .q })
   unfolding ellipseNear
   near-answer =

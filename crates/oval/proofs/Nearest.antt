@@ -5,7 +5,7 @@ use mathlib.Core.Bool.{Bool, true, false, cond}
 use lib.Dec.{T}
 use lib.Ieee.{Float, nan, inf, fin, neg, le, lt, eq, fits}
 use Rattle.number.specs.Exact.{Held, zeroᶠ}
-use Rattle.number.specs.Signs.{signBit, absOf, copysignOf}
+use Rattle.signs.specs.Signs.{signBit, absOf, copysignOf}
 use Rattle.number.proofs.Basics.{or-split}
 use Rattle.number.proofs.OrderLaws.{below-le, not-below}
 use Rattle.number.proofs.Values.{zero-held, abs-held, held-not-nan}

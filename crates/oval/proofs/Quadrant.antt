@@ -8,7 +8,7 @@ use lib.Ieee.{Float, fin, minus, binary64, add, sub, mul, div, neg, le, lt, eq, 
 use Rattle.number.specs.Exact.{zeroᶠ}
 use Rattle.number.specs.Root.{sqrtOf}
 use Rattle.number.specs.Hypot.{hypotOf}
-use Rattle.number.specs.Signs.{absOf, maxOf}
+use Rattle.signs.specs.Signs.{absOf, maxOf}
 use Rattle.number.proofs.OrderLaws.{below-not-le, below-through}
 use Rattle.number.proofs.Monotone.{one-le-quotient}
 use Rattle.boundary.specs.Line.{one}

@@ -14,17 +14,17 @@ use Rattle.algebra.specs.Order.{_≦_, ord, ≤ℤ-of-eq}
 use Rattle.number.specs.Exact.{Is, Held, zeroᶠ}
 use Rattle.number.specs.Root.{sqrtOf}
 use Rattle.number.specs.Hypot.{hypotOf}
-use Rattle.number.specs.Signs.{signBit, absOf, copysignOf, maxOf, before}
+use Rattle.signs.specs.Signs.{signBit, absOf, copysignOf, maxOf, before}
 use Rattle.number.proofs.Basics.{or-l, or-r, or-split}
 use Rattle.number.proofs.Operations.{zero-is, finite-is, equation→is}
 use Rattle.number.proofs.Compare.{eq→, le-neg}
-use Rattle.number.proofs.SignLaws.{with-sign, abs-negates}
+use Rattle.signs.proofs.SignLaws.{with-sign, abs-negates}
 use Rattle.number.proofs.OrderLaws.{is-order, order-is, is-below, le-self, below-le, le-through, below-through, finite-between, le-abs, abs-nonneg}
 use Rattle.number.proofs.Values.{zero-held, neg-held, abs-held, held-not-nan}
 use Rattle.number.proofs.Monotone.{add-mono, sub-mono, mul-mono-left, mul-mono-both, div-mono-both}
 use Rattle.number.proofs.CloseRoot.{sqrt-fits}
 use Rattle.number.proofs.SqrtLaws.{sqrt-mono-all}
-use Rattle.number.proofs.HypotLaws.{hypot-mono}
+use Rattle.number.proofs.HypotLaws.{hypot-fits, hypot-mono}
 
 -- 2 ^ k and 2 ^ -k
 abbrev pub power : ℕ → Float
@@ -171,16 +171,12 @@ abs-range {L} {l} {h} {x} X t =
 
 -- ---- hypot, where the magnitudes are u and v at least
 pub hypot-range : {L H l h x k m y : Float} (u v : Float) → absOf u ≡ u → absOf v ≡ v → Ranged l h x → Ranged k m y → T (spans u l h) → T (spans v k m) → T (inside L H (hypotOf u v) (hypotOf h m)) → Ranged L H (hypotOf x y)
-unfolding hypotOf
 hypot-range {h = h} {x = x} {m = m} {y = y} u v eu ev X Y s t =
     let A : Ranged u h (absOf x) = abs-range X s in
     let B : Ranged v m (absOf y) = abs-range Y t in
     ranged-by (hypotOf u v) (hypotOf h m) (hypotOf x y) (hypot-fits u v) (hypot-fits h m) (hypot-fits x y)
     (hypot-mono u v x y (rw eu (A .low)) (rw ev (B .low))) (hypot-mono x y h m (to A) (to B))
   where
-    hypot-fits : (x y : Float) → T (fits binary64 (hypotOf x y))
-    hypot-fits x y = sqrt-fits (add binary64 (mul binary64 x x) (mul binary64 y y)) (add-fits binary64 (mul binary64 x x) (mul binary64 y y))
-
     to : {u h x : Float} → Ranged u h x → T (le x (absOf h))
     to {h = h} {x = x} A = le-through x h (absOf h) (A .high) (le-abs h (held-not-nan (A .to)))
 

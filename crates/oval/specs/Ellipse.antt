@@ -3,7 +3,7 @@ use mathlib.Core.Bool.{Bool, false, _&&_, _||_, cond}
 use lib.IntN.{pos, negsuc}
 use lib.Ieee.{Float, fin, binary64, sub, le, eq}
 use Rattle.number.specs.Exact.{zeroᶠ}
-use Rattle.number.specs.Signs.{absOf}
+use Rattle.signs.specs.Signs.{absOf}
 use Rattle.boundary.specs.declared.Point.{Point}
 use Rattle.pieces.specs.declared.Piece.the-variants.{Ellipse}
 use Rattle.pieces.specs.Piece.{pieceNear}

@@ -3,12 +3,13 @@ use mathlib.Core.Path.{_≡_}
 use mathlib.Core.Bool.{false, _||_}
 use lib.IntN.{pos}
 use lib.Dec.{T}
-use lib.Ieee.{Float, fin, binary64, add, sub, le, eq, fits}
+use lib.Ieee.{Float, fin, binary64, add, le, eq, fits}
 use lib.Ieee.Scale.{finite}
 use Rattle.number.specs.Exact.{zeroᶠ}
-use Rattle.number.specs.Signs.{signBit, absOf}
+use Rattle.signs.specs.Signs.{signBit, absOf}
 use Rattle.boundary.specs.declared.Point.{Point}
 use Rattle.boundary.specs.declared.Distance.{Distance}
+use Rattle.boundary.specs.Line.{lessPoint}
 use Rattle.pieces.specs.Ellipse.{ellipseNearest}
 use Rattle.oval.specs.Ellipse.{axisFits, leastOffset}
 
@@ -49,10 +50,7 @@ pub record OvalPoint (p q : Point) : Type 0 where
   pub finite : FinitePoint q
   pub quadrant : InQuadrant p q
 
--- point less centre, and an answer moved back
-abbrev pub lessCentre : Point → Point → Point
-lessCentre c p = record { x = sub binary64 (p .x) (c .x); y = sub binary64 (p .y) (c .y) }
-
+-- an answer moved back to the centre
 abbrev pub movedBack : Point → Point → Point
 movedBack c q = record { x = add binary64 (c .x) (q .x); y = add binary64 (c .y) (q .y) }
 
@@ -62,5 +60,5 @@ pub record OvalAnswer (c : Point) (a b : Float) (p : Point) (r : Distance) : Typ
   pub distance : T (finite (r .d))
   pub not-negative : T (le zeroᶠ (r .d))
   pub nearest : FinitePoint (r .v)
-  pub moved : r .v ≡ movedBack c (ellipseNearest a b (lessCentre c p))
-  pub quadrant : InQuadrant (lessCentre c p) (ellipseNearest a b (lessCentre c p))
+  pub moved : r .v ≡ movedBack c (ellipseNearest a b (lessPoint p c))
+  pub quadrant : InQuadrant (lessPoint p c) (ellipseNearest a b (lessPoint p c))

@@ -25,7 +25,7 @@ fn offset_fits(c: f64, p: f64) -> bool
     ensures { λ r. ⌜ r ≡ offsetFits c p ⌝ }
 {
     let d = p - c;
-    (d == 0.0) | (LEAST_OFFSET <= number::signs::abs(d))
+    (d == 0.0) | (LEAST_OFFSET <= signs::abs(d))
 }
 
 // Whether test 12 is passed.

@@ -1,12 +1,11 @@
 -- The nearest point of an ellipse whose axes lie along x and y (document 01, boundary.rs): `ellipse_nearest` in the Rust's names and order. Definitions only.
-use mathlib.Core.Bool.{false, _||_, cond}
+use mathlib.Core.Bool.{_||_, cond}
 use Prim.Native.Nat.{ℕ, zero, suc}
-use lib.IntN.{negsuc}
-use lib.Ieee.{Float, fin, binary64, add, sub, mul, div, lt, eq}
+use lib.Ieee.{Float, binary64, add, sub, mul, div, lt, eq}
 use Rattle.number.specs.Exact.{zeroᶠ}
 use Rattle.number.specs.Root.{sqrtOf}
 use Rattle.number.specs.Hypot.{hypotOf}
-use Rattle.number.specs.Signs.{absOf, copysignOf, maxOf}
+use Rattle.signs.specs.Signs.{absOf, copysignOf, maxOf}
 use Rattle.boundary.specs.declared.Point.{Point}
 use Rattle.pieces.specs.declared.Curve.{Curve}
 use Rattle.boundary.specs.declared.Near.{Near}

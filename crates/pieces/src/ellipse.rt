@@ -7,9 +7,9 @@ use boundary::Point;
 use boundary::middle_of;
 use number::root::hypot;
 use number::root::sqrt;
-use number::signs::abs;
-use number::signs::copysign;
-use number::signs::max;
+use signs::abs;
+use signs::copysign;
+use signs::max;
 
 fn excess_of(x: f64, y: f64) -> f64
     ensures { λ r. ⌜ r ≡ excess x y ⌝ }

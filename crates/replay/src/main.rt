@@ -2,14 +2,13 @@
 // each and writes its answer, one a line. oracle/sample writes the calls and the Rust's answers. A
 // call is an operation's name and its arguments, floats as their bits in hexadecimal, a list as its
 // length and its floats.
-mod floats;
 mod indexes;
 mod numbers;
 mod outlines;
-mod read;
 mod sets;
 
-use read::Reader;
+use sample::read;
+use sample::read::Reader;
 
 // The operations' names in base 256.
 const SQRT: u64 = 0x7371_7274;
@@ -27,7 +26,7 @@ fn answer(name: u64, buf: &mut [u8], r: Reader) -> Reader {
     outlines::answer(name, buf, r)
 }
 
-// A proved loop has to end, and nothing says that the input does: so this loop and those of read.rt
+// A proved loop has to end, and nothing says that the input does: so this loop and those of the reader
 // count their turns down, from a number that no run uses up.
 fn main() {
     let mut space = io::buffer();

@@ -1,7 +1,7 @@
 // The number helpers: vk_sqrt and vk_hypot.
-use crate::floats;
-use crate::read;
-use crate::read::Reader;
+use sample::floats;
+use sample::read;
+use sample::read::Reader;
 
 pub fn sqrt(buf: &mut [u8], r: Reader) -> Reader {
     let x = read::word(buf, r);

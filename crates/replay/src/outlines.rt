@@ -3,11 +3,12 @@
 // length; an answer is the refusal's number, the answer fields and such a list.
 ghost use Prim.Native.Nat.{_≤_};
 ghost use lib.ListN.{length};
-use crate::floats;
 use crate::indexes;
-use crate::read;
-use crate::read::Reader;
 use crate::sets;
+use sample::answers;
+use sample::floats;
+use sample::read;
+use sample::read::Reader;
 
 // The operations' names in base 256, of a longer one the last eight bytes.
 const AREA: u64 = 0x6172_6561;
@@ -43,61 +44,16 @@ pub struct Pair {
     pub reader: Reader,
 }
 
-// Writes a refusal's number, a flag, a location or a count.
-pub fn print_number(n: u32) {
-    io::print_hex(1, n as u64, 1);
-}
-
-// Writes a space and a measure. A zero's sign is not compared: it is written as +0.
-fn print_measure(x: f64) {
-    io::write_all(1, b" ");
-    floats::write(x + 0.0);
-}
-
-// Writes an answer that has one measure.
-fn print_measured(number: u32, x: f64) {
-    print_number(number);
-    print_measure(x);
-    io::write_all(1, b"\n");
-}
-
-// Writes an answer that has a box.
-fn print_box(number: u32, min_x: f64, min_y: f64, max_x: f64, max_y: f64) {
-    print_number(number);
-    print_measure(min_x);
-    print_measure(min_y);
-    print_measure(max_x);
-    print_measure(max_y);
-    io::write_all(1, b"\n");
-}
-
-// Writes an answer that has three measures.
-fn print_three(number: u32, a: f64, b: f64, c: f64) {
-    print_number(number);
-    print_measure(a);
-    print_measure(b);
-    print_measure(c);
-    io::write_all(1, b"\n");
-}
-
-// Writes an answer that has a flag or a location.
-pub fn print_told(number: u32, told: u32) {
-    print_number(number);
-    io::write_all(1, b" ");
-    print_number(told);
-    io::write_all(1, b"\n");
-}
-
 fn area(v: &[f64]) {
     let mut area = 1.0;
     let number = viskunor::outlines::vk_outline_area(v, &mut area);
-    print_measured(number, area);
+    answers::print_measured(number, area);
 }
 
 fn perimeter(v: &[f64]) {
     let mut perimeter = 1.0;
     let number = viskunor::outlines::vk_outline_perimeter(v, &mut perimeter);
-    print_measured(number, perimeter);
+    answers::print_measured(number, perimeter);
 }
 
 fn bounds(v: &[f64]) {
@@ -106,19 +62,19 @@ fn bounds(v: &[f64]) {
     let mut c = 1.0;
     let mut d = 1.0;
     let number = viskunor::outlines::vk_outline_bounds(v, &mut a, &mut b, &mut c, &mut d);
-    print_box(number, a, b, c, d);
+    answers::print_box(number, a, b, c, d);
 }
 
 fn contains(v: &[f64], x: f64, y: f64) {
     let mut inside = 9;
     let number = viskunor::outlines::vk_outline_contains(v, x, y, &mut inside);
-    print_told(number, inside);
+    answers::print_told(number, inside);
 }
 
 fn locate(v: &[f64], x: f64, y: f64) {
     let mut location = 9;
     let number = viskunor::outlines::vk_outline_locate(v, x, y, &mut location);
-    print_told(number, location);
+    answers::print_told(number, location);
 }
 
 fn distance(v: &[f64], x: f64, y: f64) {
@@ -126,7 +82,7 @@ fn distance(v: &[f64], x: f64, y: f64) {
     let mut a = 1.0;
     let mut b = 1.0;
     let number = viskunor::outlines::vk_outline_distance(v, x, y, &mut d, &mut a, &mut b);
-    print_three(number, d, a, b);
+    answers::print_three(number, d, a, b);
 }
 
 // Centre, semi-axes, point.
@@ -149,26 +105,7 @@ fn ellipse(v: &[f64]) {
         &mut y,
         &mut d,
     );
-    print_three(number, x, y, d);
-}
-
-// Writes a space and a float for each of the first n of the list.
-pub fn print_list(list: &[f64], n: usize) {
-    let mut i = 0;
-    while i < list.len() && i < n {
-        io::write_all(1, b" ");
-        floats::write(list[i]);
-        i += 1;
-    }
-}
-
-// Writes what making answers, and the n lent places.
-fn print_made(number: u32, count: u32, made: &[f64], n: usize) {
-    print_number(number);
-    io::write_all(1, b" ");
-    print_number(count);
-    print_list(made, n);
-    io::write_all(1, b"\n");
+    answers::print_three(number, x, y, d);
 }
 
 // A count of places, of which there are `most`.
@@ -190,15 +127,7 @@ fn make_in(v: &[f64], n: usize, made: &mut [f64])
 {
     let mut count = 9;
     let number = viskunor::outlines::vk_outline_make(v, &mut made[..n], &mut count);
-    print_made(number, count, made, n);
-}
-
-// Writes what a fill answers, and the n lent places.
-fn print_filled(number: u32, fill: f64, work: &[f64], n: usize) {
-    print_number(number);
-    print_measure(fill);
-    print_list(work, n);
-    io::write_all(1, b"\n");
+    answers::print_made(number, count, made, n);
 }
 
 // Fills a cell, in a list of ones, of which n are lent.
@@ -220,7 +149,7 @@ fn fill_in(v: &[f64], low: Pair, high: Pair, n: usize, work: &mut [f64])
         &mut work[..n],
         &mut fill,
     );
-    print_filled(number, fill, work, n);
+    answers::print_filled(number, fill, work, n);
 }
 
 // The operations on a list alone.

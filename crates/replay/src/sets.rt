@@ -1,11 +1,11 @@
 // Queries over a set: the calls vk_set_any_at and vk_set_nearest, in buffers of their stated sizes. The
 // vertices come as a list of floats, the counts as a list of numbers, then the point.
-ghost use Rattle.replay.specs.Counts.{Counts};
-use crate::floats;
+ghost use Rattle.sample.specs.Counts.{Counts};
 use crate::outlines;
 use crate::outlines::Pair;
-use crate::read;
-use crate::read::Reader;
+use sample::answers;
+use sample::read;
+use sample::read::Reader;
 
 fn any_at(v: &[f64], counts: &[u32], p: Pair) {
     let mut corners = [1.0; 2044];
@@ -22,19 +22,7 @@ fn any_at(v: &[f64], counts: &[u32], p: Pair) {
         &mut items,
         &mut any,
     );
-    outlines::print_told(number, any);
-}
-
-// Writes what the nearest query answers.
-fn print_nearest(number: u32, found: u32, outline: u32, distance: f64) {
-    outlines::print_number(number);
-    io::write_all(1, b" ");
-    outlines::print_number(found);
-    io::write_all(1, b" ");
-    outlines::print_number(outline);
-    io::write_all(1, b" ");
-    floats::write(distance);
-    io::write_all(1, b"\n");
+    answers::print_told(number, any);
 }
 
 fn nearest(v: &[f64], counts: &[u32], p: Pair) {
@@ -56,7 +44,7 @@ fn nearest(v: &[f64], counts: &[u32], p: Pair) {
         &mut outline,
         &mut distance,
     );
-    print_nearest(number, found, outline, distance);
+    answers::print_nearest(number, found, outline, distance);
 }
 
 fn answer_in(any: bool, buf: &mut [u8], r: Reader, v: &[f64], space: &mut [u32]) -> Reader {

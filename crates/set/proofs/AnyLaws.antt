@@ -2,11 +2,10 @@
 use mathlib.Core.Path.{_≡_, refl, sym, ap, _∙_}
 use mathlib.Core.Bool.{Bool, true, false, _||_}
 use mathlib.Core.List.{List, [], _∷_, _++_}
-use Prim.Native.Nat.{ℕ, suc, _+_, _<_}
+use Prim.Native.Nat.{ℕ, suc, _<_}
 use native.Mathlib.Omega.{arith}
-use lib.ListN.{length, getD, drop}
+use lib.ListN.{length, getD}
 use Rattle.boundary.specs.Folds.{fold, any}
-use Rattle.boundary.proofs.FoldLaws.{fold-drop-next}
 
 module _ {A : Type 0} (p : A → Bool) where
   -- with what was found before
@@ -30,13 +29,3 @@ module _ {A : Type 0} (p : A → Bool) where
   unfolding fold any
   none-of d [] h = refl
   none-of d (x ∷ xs) h = rw (h 0 (omega arith)) (none-of d xs (λ i l. h (suc i) (omega arith)))
-
-  -- a search from the first member on: member i passes, or the search goes on
-  abbrev pub step : Bool → A → Bool
-  step b x = b || p x
-
-  pub found-at : (d : A) (xs : List A) (i : ℕ) → i < length xs → fold step false (drop i xs) ≡ any p xs → p (getD xs i d) ≡ true → true ≡ any p xs
-  found-at d xs i l e h = sym (ap (λ (b : Bool). fold step b (drop (i + 1) xs)) h ∙ any-from true (drop (i + 1) xs)) ∙ sym (fold-drop-next step d false xs i l) ∙ e
-
-  pub missed-at : (d : A) (xs : List A) (i : ℕ) → i < length xs → fold step false (drop i xs) ≡ any p xs → p (getD xs i d) ≡ false → fold step false (drop (i + 1) xs) ≡ any p xs
-  missed-at d xs i l e h = sym (ap (λ (b : Bool). fold step b (drop (i + 1) xs)) h) ∙ sym (fold-drop-next step d false xs i l) ∙ e

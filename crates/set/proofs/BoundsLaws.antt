@@ -12,11 +12,11 @@ use lib.Ieee.Fits.{and-i}
 use Rattle.number.proofs.OrderLaws.{le-self, le-through}
 use Rattle.boundary.specs.declared.Point.{Point}
 use Rattle.boundary.specs.declared.Bounds.{Bounds}
-use Rattle.boundary.specs.Boxes.{PointOf, BoxOf, inField, lesser, greater}
+use Rattle.boundary.specs.Boxes.{PointOf, BoxOf, inField, lesser, greater, hull, nowhere, stretched}
 use Rattle.boundary.specs.Folds.{run, fold}
 use Rattle.boundary.specs.Outline.{count, vertexAt, vertices}
 use Rattle.boundary.proofs.AlongLaws.{ends-between, one-of}
-use Rattle.geometry.specs.Polygon.{nowhere, stretched, boundsOf}
+use Rattle.geometry.specs.Polygon.{boundsOf}
 use Rattle.boundary.specs.Boxes.{boxFits}
 
 abbrev pub InField : Float → Type 0
@@ -65,7 +65,7 @@ module _ (P : Float → Type 0) (field : (x : Float) → P x → InField x) wher
     pub y : Span (b .min .y) (b .max .y)
 
   spanned-more : (b : Bounds) (p : Point) → Spanned b → PointOf P p → Spanned (stretched b p)
-  unfolding stretched
+  unfolding hull
   spanned-more b p s h = record { x = span-more (b .min .x) (b .max .x) (p .x) (s .x) (h .x); y = span-more (b .min .y) (b .max .y) (p .y) (s .y) (h .y) }
 
   spanned-run : (g : ℕ → Point) (i k : ℕ) (b : Bounds) → Spanned b → ((j : ℕ) → j < i + k → PointOf P (g j)) → Spanned (fold stretched b (run g i k))
@@ -74,7 +74,7 @@ module _ (P : Float → Type 0) (field : (x : Float) → P x → InField x) wher
   spanned-run g i (suc k) b s h = spanned-run g (suc i) k (stretched b (g i)) (spanned-more b (g i) s (h i (omega arith))) (λ j l. h j (omega arith))
 
   spanned-all : (g : ℕ → Point) (n : ℕ) → 0 < n → ((j : ℕ) → j < n → PointOf P (g j)) → Spanned (fold stretched nowhere (run g 0 n))
-  unfolding run fold stretched
+  unfolding run fold hull
   spanned-all g zero l h = absurd (omega arith)
   spanned-all g (suc n) l h =
       let p = h 0 (omega arith) in

@@ -1,6 +1,6 @@
 -- Laws of sets.
 
--- Whether some member passes a test: over two lists, and over a list's parts.
+-- Whether some member passes a test: over two lists, and where no member does.
 pub mod AnyLaws
 -- Tests 5 to 9 in one pass.
 pub mod OnePassLaws
@@ -8,7 +8,5 @@ pub mod OnePassLaws
 pub mod BoundsLaws
 -- What a set that passes the tests has: its outlines, and their boxes.
 pub mod SetLaws
--- What a query has and leaves.
+-- What a query has, and the starts that it writes.
 pub mod AskLaws
--- What `any_at` tells.
-pub mod Theorems

@@ -1,4 +1,4 @@
--- What the queries over a set promise. Definitions only.
+-- What a set is, its tests, and what every query over a set tests and leaves. Definitions only.
 
 -- A set of outlines.
 pub mod Set
@@ -6,5 +6,5 @@ pub mod Set
 pub mod Tests
 -- Tests 5 to 9 in one pass.
 pub mod OnePass
--- What a query answers, and what it leaves.
+-- The tests of a query, and what it leaves.
 pub mod Answers

@@ -1,15 +1,13 @@
-// The outlines of a set: where each begins, its box, and whether one of them contains a point.
+// The outlines of a set: where each begins, and its box.
 ghost use mathlib.Core.Path.{_≡_};
 ghost use Prim.Native.Nat.{_-_, _*_, _≤_, _<_, _^_};
 ghost use lib.ListN.{length, take, drop};
 ghost use lib.Seq.{sets};
-ghost use Rattle.boundary.specs.Folds.{run, any};
-ghost use Rattle.boundary.specs.Outline.{vertices, edges};
-ghost use Rattle.geometry.specs.Polygon.{boundsOf, containsOf};
+ghost use Rattle.boundary.specs.Folds.{run};
+ghost use Rattle.boundary.specs.Outline.{vertices};
+ghost use Rattle.geometry.specs.Polygon.{boundsOf};
 ghost use Rattle.entries.specs.Entries.{boxNumbers};
-ghost use Rattle.set.specs.Set.{startOf, outlineAt, setBoxes};
-ghost use Rattle.set.specs.Answers.{Starts};
-use boundary::Point;
+ghost use Rattle.set.specs.Set.{startOf, setBoxes};
 use geometry::polygon;
 
 // How many vertices stand before each outline.
@@ -47,32 +45,4 @@ pub fn put_boxes(v: &[f64], counts: &[u32], boxes: &mut [f64])
         at = end;
         k += 1;
     }
-}
-
-// Whether outline k contains p: past the last outline there is none.
-fn holds_at(v: &[f64], counts: &[u32], starts: &[u32], k: usize, p: Point) -> bool
-    requires { ⌜ (2 * startOf (now counts) (length (now counts)) ≤ length (now v)) × Starts (now counts) (now starts) ⌝ }
-    ensures { λ r. ⌜ r ≡ containsOf (edges (outlineAt (now (v .entry)) (now (counts .entry)) k)) p ⌝ }
-{
-    if k < counts.len() {
-        let at = 2 * (sorts::at(starts, k) as usize);
-        let end = at + 2 * (sorts::at(counts, k) as usize);
-        return polygon::holds(&v[at..end], p);
-    }
-    false
-}
-
-// Whether one of the outlines of the list does.
-pub fn any_holds(v: &[f64], counts: &[u32], starts: &[u32], list: &[u32], p: Point) -> bool
-    requires { ⌜ (2 * startOf (now counts) (length (now counts)) ≤ length (now v)) × Starts (now counts) (now starts) ⌝ }
-    ensures { λ r. ⌜ r ≡ any (λ k. containsOf (edges (outlineAt (now (v .entry)) (now (counts .entry)) k)) p) (now (list .entry)) ⌝ }
-{
-    let mut i = 0;
-    while i < list.len() {
-        if holds_at(v, counts, starts, sorts::at(list, i) as usize, p) {
-            return true;
-        }
-        i += 1;
-    }
-    false
 }

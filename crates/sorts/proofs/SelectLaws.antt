@@ -2,18 +2,18 @@
 use mathlib.Core.Path.{_≡_, refl, sym, ap, ap₂, _∙_}
 use mathlib.Core.Bool.{Bool, true, false, cond}
 use mathlib.Core.List.{List, [], _∷_, _++_}
-use Prim.Native.Nat.{ℕ, _+_, _≤_, _<_}
+use Prim.Native.Nat.{ℕ, zero, suc, _+_, _≤_, _<_}
 use native.Mathlib.Omega.{arith}
 use lib.Dec.{leb, eqb}
 use lib.ListN.{length, take, drop, take-append-drop}
 use lib.Seq.{take-at, drop-at, length-take-le}
 use lib.Ieee.{Float}
 use borrow.Author.Tests.{eqb-true, eq-eqb}
-use Rattle.sorts.specs.Sort.{insert, sort, halves, times, In, Selected}
+use Rattle.sorts.specs.Sort.{insert, sort, halves, Each, Sorted, times, In, Selected}
 use Rattle.sorts.specs.Keys.{goes}
-use Rattle.sorts.proofs.SortLaws.{length-sort, times-append}
+use Rattle.sorts.proofs.SortLaws.{length-sort, times-sort, times-append}
 use Rattle.sorts.proofs.Order.{goes-total, goes-trans, goes-antisym}
-use Rattle.sorts.proofs.PartLaws.{sort-apart, sort-inside, leb-total, leb-trans, leb-antisym, ascend-again}
+use Rattle.sorts.proofs.PartLaws.{sort-apart, sort-inside, sorted-sort, leb-total, leb-trans, leb-antisym, ascend-again}
 
 -- ---- lists of the same members
 -- what stands before x in the list, and what after it
@@ -68,6 +68,19 @@ module _ (le : ℕ → ℕ → Bool)
 pub ascend-same : (xs ys : List ℕ) → ((i : ℕ) → times i ys ≡ times i xs) → sort leb ys ≡ sort leb xs
 ascend-same = sort-same leb leb-total leb-trans leb-antisym
 
+-- ---- a sorted list is parted at each place
+each-drop : (P : ℕ → Type 0) (m : ℕ) (xs : List ℕ) → Each P xs → Each P (drop m xs)
+unfolding Each
+each-drop P zero xs e = e
+each-drop P (suc m) [] e = tt
+each-drop P (suc m) (x ∷ xs) e = each-drop P m xs (e .1)
+
+sorted-parted : (le : ℕ → ℕ → Bool) (m : ℕ) (xs : List ℕ) → Sorted le xs → Each (λ a. Each (λ b. le a b ≡ true) (drop m xs)) (take m xs)
+unfolding Each Sorted
+sorted-parted le zero xs s = tt
+sorted-parted le (suc m) [] s = tt
+sorted-parted le (suc m) (x ∷ xs) s = (each-drop (λ b. le x b ≡ true) m xs (s .0), sorted-parted le m xs (s .1))
+
 -- ---- by a key
 module _ (key : ℕ → Float) where
   goes-same : (xs ys : List ℕ) → ((i : ℕ) → times i ys ≡ times i xs) → sort (goes key) ys ≡ sort (goes key) xs
@@ -96,3 +109,10 @@ module _ (key : ℕ → Float) where
     pub selected-halves : sort leb (take m ys) ++ sort leb (drop m ys) ≡ halves (goes key) m xs
     unfolding halves
     selected-halves = ap₂ (λ (l k : List ℕ). l ++ k) selected-first selected-rest
+
+  -- a sort is a selection, so there is one of every list
+  pub sort-selected : (m : ℕ) (xs : List ℕ) → Selected (goes key) m xs (sort (goes key) xs)
+  sort-selected m xs = record {
+    same = λ i. times-sort (goes key) i xs;
+    parted = sorted-parted (goes key) m (sort (goes key) xs) (sorted-sort (goes key) (goes-total key) (goes-trans key) xs);
+  }

@@ -7,9 +7,8 @@ use lib.ListN.{length, take, drop}
 use lib.Ieee.{Float, binary64, sub, lt}
 use Rattle.boundary.specs.declared.Point.{Point}
 use Rattle.boundary.specs.declared.Bounds.{Bounds}
-use Rattle.boundary.specs.Boxes.{lesser, greater}
+use Rattle.boundary.specs.Boxes.{hull, nowhere, stretched}
 use Rattle.boundary.specs.Folds.{run, fold}
-use Rattle.geometry.specs.Polygon.{nowhere, stretched}
 use Rattle.sorts.specs.Keys.{goes}
 use Rattle.sorts.specs.Sort.{sort, halves}
 use Rattle.entries.specs.Entries.{boxCount, boxAt, wideAt, centreOf, pointIn}
@@ -19,14 +18,6 @@ pub data Tree : Type 0 where
   leaf : Bounds → List ℕ → Tree
   inner : Bounds → Tree → Tree → Tree
 
--- the box around two boxes
-unfoldable pub hull : Bounds → Bounds → Bounds
-unfolding lt
-hull a b = record {
-  min = record { x = lesser (a .min .x) (b .min .x); y = lesser (a .min .y) (b .min .y) };
-  max = record { x = greater (a .max .x) (b .max .x); y = greater (a .max .y) (b .max .y) };
-}
-
 -- the box around the items' boxes, which are taken in the order of their numbers
 unfoldable pub hullOf : (ℕ → Bounds) → List ℕ → Bounds
 unfolding fold hull sort
@@ -34,7 +25,7 @@ hullOf W is = fold (λ b i. hull b (W i)) nowhere (sort leb is)
 
 -- the box of the items' centres, taken in the same order
 unfoldable pub spreadOf : (ℕ → Point) → List ℕ → Bounds
-unfolding fold stretched sort
+unfolding fold hull sort
 spreadOf C is = fold (λ b i. stretched b (C i)) nowhere (sort leb is)
 
 -- whether the centres spread wider along y; x on a tie

@@ -3,41 +3,25 @@ ghost use mathlib.Core.Path.{_≡_};
 ghost use Prim.Native.Nat.{_/_, _≤_, _^_};
 ghost use lib.Dec.{leb};
 ghost use lib.ListN.{length};
-ghost use Rattle.geometry.specs.Polygon.{stretched};
+ghost use Rattle.boundary.specs.Boxes.{hull, stretched};
 ghost use Rattle.sorts.specs.Sort.{sort, Sorted, halves};
 ghost use Rattle.sorts.specs.Keys.{goes, keyIn};
 ghost use Rattle.entries.specs.Entries.{boxAt, pointIn};
-ghost use Rattle.splits.specs.Tree.{hull, hullOf, spreadOf, alongY, along};
+ghost use Rattle.splits.specs.Tree.{hullOf, spreadOf, alongY, along};
 use boundary::Bounds;
 use boundary::Point;
-use geometry::polygon;
-
-// The box around two boxes.
-pub fn around(a: Bounds, b: Bounds) -> Bounds
-    ensures { λ r. ⌜ r ≡ hull a b ⌝ }
-{
-    Bounds {
-        min: Point {
-            x: boundary::lesser_of(a.min.x, b.min.x),
-            y: boundary::lesser_of(a.min.y, b.min.y),
-        },
-        max: Point {
-            x: boundary::greater_of(a.max.x, b.max.x),
-            y: boundary::greater_of(a.max.y, b.max.y),
-        },
-    }
-}
+use boundary::boxes;
 
 // The box around the items' boxes, where the items ascend.
 pub fn hull_of(wide: &[f64], list: &[u32]) -> Bounds
     requires { ⌜ Sorted leb (now list) ⌝ }
     ensures { λ r. ⌜ r ≡ hullOf (boxAt (now (wide .entry))) (now (list .entry)) ⌝ }
 {
-    let mut b = polygon::empty_box();
+    let mut b = boxes::empty_box();
     let mut i = 0;
     while i < list.len() {
         let k = sorts::at(list, i) as usize;
-        b = around(b, entries::box_at(wide, k));
+        b = boxes::around(b, entries::box_at(wide, k));
         i += 1;
     }
     b
@@ -60,8 +44,8 @@ fn spanned(s: Spans, wide: &[f64], xs: &[f64], ys: &[f64], k: usize) -> Spans
         x: entries::number_at(xs, k),
         y: entries::number_at(ys, k),
     };
-    let outer = around(hull, entries::box_at(wide, k));
-    let inner = polygon::stretch(spread, c);
+    let outer = boxes::around(hull, entries::box_at(wide, k));
+    let inner = boxes::stretch(spread, c);
     Spans {
         hull: outer,
         spread: inner,
@@ -74,7 +58,7 @@ pub fn spans_of(wide: &[f64], xs: &[f64], ys: &[f64], list: &[u32]) -> Spans
     ensures { λ r. ⌜ (r .hull ≡ hullOf (boxAt (now (wide .entry))) (now (list .entry)))
         × (r .spread ≡ spreadOf (pointIn (now (xs .entry)) (now (ys .entry))) (now (list .entry))) ⌝ }
 {
-    let none = polygon::empty_box();
+    let none = boxes::empty_box();
     let mut s = Spans {
         hull: none,
         spread: none,

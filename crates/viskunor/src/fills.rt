@@ -3,6 +3,7 @@
 // call leaves it as it was, but for refusal 14.
 ghost use mathlib.Core.Path.{_≡_};
 ghost use lib.ListN.{length};
+ghost use Rattle.boundary.specs.Boxes.{cellOf};
 ghost use Rattle.accept.specs.Answers.{numberOf, measureOf};
 ghost use Rattle.fill.specs.Answers.{fillAnswer, fillBuffer};
 use accept::answers;
@@ -19,9 +20,9 @@ pub extern "C" fn vk_outline_fill(
     work: &mut [f64],
     fill: &mut f64,
 ) -> u32
-    ensures { λ r. ⌜ (r ≡ numberOf (fillAnswer (now (vertices .entry)) (record { min = record { x = «min_x»; y = «min_y» }; max = record { x = «max_x»; y = «max_y» } }) (length (now (work .entry)))))
-        × (now (fill .exit) ≡ measureOf (fillAnswer (now (vertices .entry)) (record { min = record { x = «min_x»; y = «min_y» }; max = record { x = «max_x»; y = «max_y» } }) (length (now (work .entry)))))
-        × (now (work .exit) ≡ fillBuffer (now (vertices .entry)) (record { min = record { x = «min_x»; y = «min_y» }; max = record { x = «max_x»; y = «max_y» } }) (now (work .entry))) ⌝ }
+    ensures { λ r. ⌜ (r ≡ numberOf (fillAnswer (now (vertices .entry)) (cellOf «min_x» «min_y» «max_x» «max_y») (length (now (work .entry)))))
+        × (now (fill .exit) ≡ measureOf (fillAnswer (now (vertices .entry)) (cellOf «min_x» «min_y» «max_x» «max_y») (length (now (work .entry)))))
+        × (now (work .exit) ≡ fillBuffer (now (vertices .entry)) (cellOf «min_x» «min_y» «max_x» «max_y») (now (work .entry))) ⌝ }
 {
     let cell = Bounds {
         min: Point { x: min_x, y: min_y },

@@ -6,7 +6,8 @@ ghost use lib.ListN.{length};
 ghost use Rattle.accept.specs.Answers.{numberOf, toldOf};
 ghost use Rattle.index.specs.Answers.{buildAnswer, builtCorners, builtLinks, builtItems, builtNumber, nodesIn, itemsIn};
 ghost use Rattle.records.specs.Records.{nodesAnswer, recordNodes, recordItems};
-ghost use Rattle.meeting.specs.Answers.{cellOf, meetingAnswer, meetingCorners, meetingLinks, meetingItems, meetingList};
+ghost use Rattle.boundary.specs.Boxes.{cellOf};
+ghost use Rattle.meeting.specs.Answers.{meetingAnswer, meetingCorners, meetingLinks, meetingItems, meetingList};
 use accept::answers;
 use boundary::Bounds;
 use boundary::Point;
@@ -29,9 +30,10 @@ pub extern "C" fn vk_index_build(
         × (now (items .exit) ≡ builtItems (now (boxes .entry)) (now (corners .entry)) (now (links .entry)) (now (items .entry))) ⌝ }
 {
     let built = index::new(boxes, corners, links, items);
-    *node_count = index::refusals::nodes_in(built);
-    *item_count = index::refusals::items_in(built);
-    index::refusals::built_number(built)
+    let told = index::answers::fields(built);
+    *node_count = told.nodes;
+    *item_count = told.items;
+    told.number
 }
 
 // The same as node records. Its proof is a walk by hand, as that of `records::offer` is.

@@ -2,7 +2,8 @@
 // that it is lent; a refused call puts zeros there and leaves the lent lists as they were.
 ghost use mathlib.Core.Path.{_≡_};
 ghost use Rattle.accept.specs.Answers.{numberOf, toldOf};
-ghost use Rattle.set.specs.Answers.{anyAnswer, clearedCorners, clearedLinks, clearedItems};
+ghost use Rattle.set.specs.Answers.{clearedCorners, clearedLinks, clearedItems};
+ghost use Rattle.any.specs.Answers.{anyAnswer};
 ghost use Rattle.nearest.specs.Nearest.{nearestNumber, foundIn, outlineIn, distanceIn};
 ghost use Rattle.nearest.specs.Answers.{nearestAnswer};
 use accept::answers;
@@ -25,7 +26,7 @@ pub extern "C" fn vk_set_any_at(
         × (now (links .exit) ≡ clearedLinks (now (vertices .entry)) (now (counts .entry)) (record { x = x; y = y }) (now (corners .entry)) (now (links .entry)) (now (items .entry)))
         × (now (items .exit) ≡ clearedItems (now (vertices .entry)) (now (counts .entry)) (record { x = x; y = y }) (now (corners .entry)) (now (links .entry)) (now (items .entry))) ⌝ }
 {
-    let answer = set::any_at(vertices, counts, Point { x, y }, corners, links, items);
+    let answer = any::any_at(vertices, counts, Point { x, y }, corners, links, items);
     *any = answers::told_of(answer);
     answers::number_of(answer)
 }

@@ -1,5 +1,6 @@
 -- `splits::hull_of` meets its contract: the box so far and the items that are left give the box of all. Assumes nothing.
-use Rattle.splits.specs.Tree.{hull, hullOf}
+use Rattle.boundary.specs.Boxes.{hull}
+use Rattle.splits.specs.Tree.{hullOf}
 use Rattle.entries.specs.Entries.{boxAt}
 use Rattle.boundary.proofs.FoldLaws.{fold-drop-next, fold-drop-end}
 use Rattle.boundary.specs.Folds.{fold}

@@ -1,7 +1,7 @@
 -- `splits::spans_of` meets its contract. Assumes nothing.
-use Rattle.splits.specs.Tree.{hull, hullOf, spreadOf}
+use Rattle.splits.specs.Tree.{hullOf, spreadOf}
 use Rattle.entries.specs.Entries.{boxAt, pointIn}
-use Rattle.geometry.specs.Polygon.{stretched}
+use Rattle.boundary.specs.Boxes.{hull, stretched}
 use Rattle.boundary.proofs.FoldLaws.{fold-drop-next, fold-drop-end}
 use Rattle.boundary.specs.Folds.{fold}
 use Rattle.sorts.proofs.PartLaws.{sort-sorted}

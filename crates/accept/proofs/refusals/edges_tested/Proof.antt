@@ -1,13 +1,18 @@
 -- `accept::refusals::edges_tested` meets its contract: what was summed so far and the edges that are left give both answers. Assumes nothing.
-use mathlib.Core.Path.{_≡_, sym, _∙_}
+use mathlib.Core.Path.{_≡_, sym, ap, _∙_}
 use mathlib.Core.Bool.{Bool, false, _||_}
-use Prim.Native.Nat.{_≤_, _-_}
+use mathlib.Core.List.{List}
+use Prim.Native.Nat.{ℕ, _+_, _-_, _≤_, _<_}
 use native.Mathlib.Nat.{sub-zero}
+use native.Mathlib.Omega.{arith}
 use borrow.Author.Needs.{needs}
+use borrow.Author.Tests.{eq-eqb, ne-eqb}
+use denote.Ref.{now}
 use lib.Ieee.{Float, binary64, add, ofBits}
+use Rattle.boundary.specs.declared.Point.{Point}
 use Rattle.boundary.specs.declared.Edge.{Edge}
 use Rattle.boundary.specs.Folds.{run, fold, any, total}
-use Rattle.boundary.specs.Outline.{count, edgeAt, edges}
+use Rattle.boundary.specs.Outline.{count, vertexAt, edgeAt, edges}
 use Rattle.boundary.proofs.FoldLaws.{fold-run-next, fold-run-end, fold-found}
 use Rattle.accept.specs.Area.{crossOf, areaOf}
 use Rattle.accept.specs.Refusals.{samePoint}
@@ -15,37 +20,71 @@ use Rattle.accept.specs.Verdicts.{verdictOf}
 use Rattle.accept.proofs.refusals.edges_tested.Statement.{statement}
 use Rattle.accept.proofs.refusals.edges_tested.Tie as tie
 
+abbrev joins : Edge → Bool
+joins e = samePoint (e .a) (e .b)
+
 abbrev found : Bool → Edge → Bool
-found b e = b || samePoint (e .a) (e .b)
+found b e = b || joins e
 
 abbrev summed : Float → Edge → Float
 summed s e = add binary64 s (crossOf e)
 
--- no edge so far joins equal vertices
+-- edge i starts at a, and no edge before it joins equal vertices
 abbrev Inv-loop : tie.InvT-loop
-Inv-loop v n sum₀ i₀ sum i =
-    (i ≤ count v) × (fold found false (run (edgeAt v) i (count v - i)) ≡ any (λ e. samePoint (e .a) (e .b)) (edges v)) × (fold summed sum (run (edgeAt v) i (count v - i)) ≡ total crossOf (edges v))
+Inv-loop v n sum₀ first a₀ i₀ sum a i =
+    (i < count v)
+    × (a ≡ vertexAt v i)
+    × (fold found false (run (edgeAt v) i (count v - i)) ≡ any joins (edges v))
+    × (fold summed sum (run (edgeAt v) i (count v - i)) ≡ total crossOf (edges v))
 
 abbrev μ-loop : tie.MeasureT-loop
-μ-loop v n sum₀ i₀ sum i = count v - i
+μ-loop v n sum₀ first a₀ i₀ sum a i = count v - i
+
+-- the edge from a to b is edge i, where another follows, and where it is the last
+module _ (v : List Float) (i : ℕ) (a b : Point) (l : i < count v) (start : a ≡ vertexAt v i) where
+  next-edge : i + 1 < count v → b ≡ vertexAt v (i + 1) → _≡_ {A = Edge} (record { a = a; b = b }) (edgeAt v i)
+  next-edge h end = rw (ne-eqb (i + 1) (count v) (λ e. omega arith), start, end)
+
+  last-edge : count v ≤ i + 1 → b ≡ vertexAt v 0 → _≡_ {A = Edge} (record { a = a; b = b }) (edgeAt v i)
+  last-edge h end = rw (eq-eqb (i + 1) (count v) (omega arith), start, end)
+
+area-tested-requires : tie.Need-area-tested-requires Inv-loop μ-loop
+area-tested-requires c κs = search needs
+
+returns : tie.Need-returns Inv-loop μ-loop
+unfolding any total fold run edges areaOf ofBits
+returns c =
+    let e : count (now (c .before .before .before .args .v)) ≡ 0 = omega arith in
+    rw (e, c .area-tested .ensures)
+
+vertex-at-requires : tie.Need-vertex-at-requires Inv-loop μ-loop
+vertex-at-requires c κs = search needs
 
 loop-holds : tie.Need-loop-holds Inv-loop μ-loop
 unfolding any total edges ofBits
-loop-holds c = (search needs, rw sub-zero, rw sub-zero)
+loop-holds c = (search needs, c .vertex-at .ensures, rw sub-zero, rw sub-zero)
 
-edge-at-requires : tie.Need-edge-at-requires Inv-loop μ-loop
-edge-at-requires c κs = search needs
+add-loop : tie.Need-add-loop Inv-loop μ-loop
+add-loop c = search needs
+
+add-vertex-at : tie.Need-add-vertex-at Inv-loop μ-loop
+add-vertex-at c = search needs
+
+vertex-at-requires-2 : tie.Need-vertex-at-requires-2 Inv-loop μ-loop
+vertex-at-requires-2 c κs = search needs
 
 same-point-requires : tie.Need-same-point-requires Inv-loop μ-loop
 same-point-requires c κs = search needs
 
-returns : tie.Need-returns Inv-loop μ-loop
+returns-2 : tie.Need-returns-2 Inv-loop μ-loop
 unfolding verdictOf
-returns c =
+returns-2 c =
     let d = c .before .before in
-    let l = d .before .loop-test .taken in
-    let s = rw (d .edge-at .ensures) at (sym (c .before .same-point .ensures) ∙ c .if1 .taken) in
-    rw (← d .before .before .loop .inv .1, fold-run-next found _ _ _ _ l, s, fold-found (λ (e : Edge). samePoint (e .a) (e .b)))
+    let q = d .before .before in
+    let inv = q .loop .inv in
+    let e = next-edge (now (q .before .before .before .before .args .v)) (q .loop .i) (q .loop .a) (d .vertex-at2 .result) (inv .0) (inv .1) (d .before .loop-test .taken) (d .vertex-at2 .ensures) in
+    let s = sym (ap joins e) ∙ sym (c .before .same-point .ensures) ∙ c .if2 .taken in
+    rw (← inv .2, fold-run-next found _ _ _ _ (inv .0), s, fold-found joins)
 
 cross-requires : tie.Need-cross-requires Inv-loop μ-loop
 cross-requires c κs = search needs
@@ -60,24 +99,30 @@ loop-again : tie.Need-loop-again Inv-loop μ-loop
 loop-again c =
     let b = c .before in
     let d = b .before .before in
-    let l = d .before .loop-test .taken in
-    let inv = d .before .before .loop .inv in
-    let s = rw (d .edge-at .ensures) at (sym (b .before .same-point .ensures) ∙ b .if1 .left) in (
+    let q = d .before .before in
+    let inv = q .loop .inv in
+    let e = next-edge (now (q .before .before .before .before .args .v)) (q .loop .i) (q .loop .a) (d .vertex-at2 .result) (inv .0) (inv .1) (d .before .loop-test .taken) (d .vertex-at2 .ensures) in
+    let s = sym (ap joins e) ∙ sym (b .before .same-point .ensures) ∙ b .if2 .left in (
       search needs,
-      rw s at (sym (fold-run-next found _ _ _ _ l) ∙ inv .1),
-      rw (c .cross .ensures, d .edge-at .ensures) (sym (fold-run-next summed _ _ _ _ l) ∙ inv .2),
+      d .vertex-at2 .ensures,
+      rw s at (sym (fold-run-next found _ _ _ _ (inv .0)) ∙ inv .2),
+      rw (c .cross .ensures ∙ ap crossOf e) (sym (fold-run-next summed _ _ _ _ (inv .0)) ∙ inv .3),
     )
 
-area-tested-requires : tie.Need-area-tested-requires Inv-loop μ-loop
-area-tested-requires c κs = search needs
+last-tested-requires : tie.Need-last-tested-requires Inv-loop μ-loop
+last-tested-requires c κs = search needs
 
-returns-2 : tie.Need-returns-2 Inv-loop μ-loop
-unfolding areaOf ofBits verdictOf
-returns-2 c =
+returns-3 : tie.Need-returns-3 Inv-loop μ-loop
+unfolding areaOf
+returns-3 c =
     let d = c .before in
     let l = d .loop-test .left in
-    let inv = d .before .loop .inv in
-    rw (← inv .1, fold-run-end found _ _ _ _ l, ← inv .2, fold-run-end summed _ _ _ _ l, c .area-tested .ensures)
+    let q = d .before in
+    let inv = q .loop .inv in
+    let e = last-edge (now (q .before .before .before .before .args .v)) (q .loop .i) (q .loop .a) (q .before .vertex-at .result) (inv .0) (inv .1) l (q .before .vertex-at .ensures) in
+    let same = sym (inv .2) ∙ fold-run-next found _ _ _ _ (inv .0) ∙ fold-run-end found _ _ _ _ l ∙ sym (ap joins e) in
+    let sums = sym (inv .3) ∙ fold-run-next summed _ _ _ _ (inv .0) ∙ fold-run-end summed _ _ _ _ l ∙ sym (ap (summed (q .loop .sum)) e) in
+    rw (same, sums, c .last-tested .ensures)
 
 pub edges-tested-spec : {M : Type 1} → statement M
 edges-tested-spec =
@@ -85,13 +130,18 @@ edges-tested-spec =
     (tie.spec
     Inv-loop
     μ-loop
-    loop-holds
-    edge-at-requires
-    same-point-requires
+    area-tested-requires
     returns
+    vertex-at-requires
+    loop-holds
+    add-loop
+    add-vertex-at
+    vertex-at-requires-2
+    same-point-requires
+    returns-2
     cross-requires
     add-i
     loop-less
     loop-again
-    area-tested-requires
-    returns-2)
+    last-tested-requires
+    returns-3)

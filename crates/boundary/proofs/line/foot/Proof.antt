@@ -8,7 +8,7 @@ use lib.Dec.{T}
 use lib.Ieee.{Float, binary64, isNan, ofBits, add, sub, mul, div, lt, le, eq}
 use lib.Ieee.Bits.{is-true}
 use Rattle.number.specs.Exact.{zeroᶠ}
-use Rattle.number.specs.Signs.{clampOf}
+use Rattle.signs.specs.Signs.{clampOf}
 use Rattle.number.proofs.OrderLaws.{not-below, below-le, level-ge, le-not-below, le-level, right-not-nan, le-through}
 use Rattle.boundary.specs.declared.Point.{Point}
 use Rattle.boundary.specs.declared.Edge.{Edge}

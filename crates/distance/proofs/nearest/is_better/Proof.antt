@@ -7,7 +7,8 @@ use lib.Ieee.{unlike, lt}
 use Rattle.number.specs.Hypot.{Short}
 use Rattle.boundary.specs.declared.Point.{Point}
 use Rattle.boundary.specs.Boxes.{PointOf}
-use Rattle.distance.specs.Search.{lessPoint, lengthTo}
+use Rattle.boundary.specs.Line.{lessPoint}
+use Rattle.distance.specs.Search.{lengthTo}
 use Rattle.distance.proofs.nearest.is_better.Statement.{statement}
 use Rattle.distance.proofs.nearest.is_better.Tie as tie
 

@@ -6,7 +6,8 @@ use borrow.Author.Needs.{needs}
 use Rattle.boundary.specs.Folds.{run, fold}
 use Rattle.boundary.specs.Outline.{count, vertexAt, vertices}
 use Rattle.boundary.proofs.FoldLaws.{fold-run-next, fold-run-end}
-use Rattle.geometry.specs.Polygon.{stretched, boundsOf}
+use Rattle.boundary.specs.Boxes.{stretched}
+use Rattle.geometry.specs.Polygon.{boundsOf}
 use Rattle.geometry.proofs.polygon.box_of.Statement.{statement}
 use Rattle.geometry.proofs.polygon.box_of.Tie as tie
 

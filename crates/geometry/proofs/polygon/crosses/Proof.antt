@@ -1,15 +1,26 @@
 -- `geometry::polygon::crosses` meets its contract. Assumes nothing.
+use borrow.Author.Needs.{needs}
 use Rattle.geometry.specs.Polygon.{crossesOf}
 use Rattle.geometry.proofs.polygon.crosses.Statement.{statement}
 use Rattle.geometry.proofs.polygon.crosses.Tie as tie
 
+vertex-at-requires : tie.Need-vertex-at-requires
+vertex-at-requires c κs = search needs
+
+vertex-at-requires-2 : tie.Need-vertex-at-requires-2
+vertex-at-requires-2 c κs = search needs
+
 returns : tie.Need-returns
 unfolding crossesOf
-returns c = rw (c .before .before .before .before .before .before .if1 .taken)
+returns c =
+    let w = c .before .before .before .before .before .before .before .before in
+    let t = w .before .before in
+    let s = t .before .before in
+    rw (w .vertex-at2 .ensures, w .before .vertex-at .ensures, ← s .pre .2, ← s .pre .3, t .if1 .taken)
 
 returns-2 : tie.Need-returns-2
 unfolding crossesOf
-returns-2 c = rw (c .if1 .left)
+returns-2 c = let s = c .before .before in rw (← s .pre .2, ← s .pre .3, c .if1 .left)
 
 pub crosses-spec : {M : Type 1} → statement M
-crosses-spec = tie.close (tie.spec returns returns-2)
+crosses-spec = tie.close (tie.spec vertex-at-requires vertex-at-requires-2 returns returns-2)

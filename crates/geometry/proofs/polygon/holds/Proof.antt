@@ -1,37 +1,70 @@
--- `geometry::polygon::holds` meets its contract: whether the edges so far count oddly, and the edges that are left, give whether all do. Assumes nothing.
-use mathlib.Core.Path.{_≡_, sym, _∙_}
+-- `geometry::polygon::holds` meets its contract: whether the edges so far count oddly, and the edges that are left, give whether all do, in the Rust's order. Assumes nothing.
+use mathlib.Core.Path.{_≡_, refl, sym, _∙_}
 use mathlib.Core.Bool.{Bool}
-use Prim.Native.Nat.{_≤_, _-_}
+use Prim.Native.Nat.{ℕ, zero, suc, _+_, _-_, _≤_, _<_}
 use native.Mathlib.Nat.{sub-zero}
+use native.Mathlib.Omega.{arith}
 use borrow.Author.Needs.{needs}
-use lib.Ieee.{unlike}
+use borrow.Author.Tests.{ne-eqb}
+use denote.Ref.{now}
+use lib.Ieee.{unlike, lt}
 use Rattle.boundary.specs.declared.Point.{Point}
 use Rattle.boundary.specs.declared.Edge.{Edge}
 use Rattle.boundary.specs.Folds.{run, fold, oddly}
-use Rattle.boundary.specs.Outline.{count, edgeAt, edges}
+use Rattle.boundary.specs.Outline.{count, vertexAt, edges}
 use Rattle.boundary.proofs.FoldLaws.{fold-run-next, fold-run-end}
-use Rattle.geometry.specs.Polygon.{crossesOf, containsOf}
+use Rattle.geometry.specs.Polygon.{crossesOf, containsOf, before, edgeInto, containsRust}
+use Rattle.geometry.proofs.ContainsLaws.{contains-rust}
 use Rattle.geometry.proofs.polygon.holds.Statement.{statement}
 use Rattle.geometry.proofs.polygon.holds.Tie as tie
 
 abbrev step : Point → Bool → Edge → Bool
 step p b e = unlike b (crossesOf p e)
 
+-- j is the vertex before vertex i
 abbrev Inv-loop : tie.InvT-loop
-Inv-loop v p n inside₀ i₀ inside i = (i ≤ count v) × (fold (step p) inside (run (edgeAt v) i (count v - i)) ≡ containsOf (edges v) p)
+Inv-loop v p n inside₀ j₀ was₀ i₀ inside j was i =
+    (i ≤ count v)
+    × (0 < count v)
+    × (j ≡ before (count v) i)
+    × (was ≡ lt (p .y) (vertexAt v j .y))
+    × (fold (step p) inside (run (edgeInto v) i (count v - i)) ≡ containsRust v p)
 
 abbrev μ-loop : tie.MeasureT-loop
-μ-loop v p n inside₀ i₀ inside i = count v - i
+μ-loop v p n inside₀ j₀ was₀ i₀ inside j was i = count v - i
+
+before-less : (n i : ℕ) → i < n → before n i < n
+before-less n zero l = omega arith
+before-less n (suc k) l = rw (ne-eqb (suc k) 0 (λ e. omega arith)) (omega arith)
+
+before-next : (n i : ℕ) → i ≡ before n (i + 1)
+before-next n i = rw (ne-eqb (i + 1) 0 (λ e. omega arith)) (omega arith)
+
+returns : tie.Need-returns Inv-loop μ-loop
+unfolding containsOf oddly fold run edges
+returns c =
+    let e : count (now (c .before .before .args .v)) ≡ 0 = omega arith in
+    rw e
+
+sub-j : tie.Need-sub-j Inv-loop μ-loop
+sub-j c = search needs
+
+vertex-at-requires : tie.Need-vertex-at-requires Inv-loop μ-loop
+vertex-at-requires c κs = search needs
 
 loop-holds : tie.Need-loop-holds Inv-loop μ-loop
-unfolding containsOf oddly edges
-loop-holds c = (search needs, rw sub-zero)
+unfolding containsRust oddly
+loop-holds c = (search needs, search needs, refl, rw (c .before .before .vertex-at .ensures), rw sub-zero)
 
-edge-at-requires : tie.Need-edge-at-requires Inv-loop μ-loop
-edge-at-requires c κs = search needs
+vertex-at-requires-2 : tie.Need-vertex-at-requires-2 Inv-loop μ-loop
+vertex-at-requires-2 c κs = search needs
 
 crosses-requires : tie.Need-crosses-requires Inv-loop μ-loop
-crosses-requires c κs = search needs
+crosses-requires c κs =
+    let q = c .before .before .before .before in
+    let inv = q .loop .inv in
+    let l = c .before .before .before .loop-test .taken in
+    (rw (inv .2) (before-less _ _ l), l, inv .3, rw (c .before .before .vertex-at2 .ensures))
 
 add-i : tie.Need-add-i Inv-loop μ-loop
 add-i c = search needs
@@ -40,10 +73,34 @@ loop-less : tie.Need-loop-less Inv-loop μ-loop
 loop-less c = search needs
 
 loop-again : tie.Need-loop-again Inv-loop μ-loop
-loop-again c = (search needs, rw (c .crosses .ensures, c .before .edge-at .ensures) (sym (fold-run-next (step _) _ _ _ _ (c .before .before .loop-test .taken)) ∙ c .before .before .before .loop .inv .1))
+loop-again c =
+    let q = c .before .before .before .before .before in
+    let inv = q .loop .inv in
+    let l = c .before .before .before .before .loop-test .taken in
+    let e = c .crosses .ensures in (
+      search needs,
+      inv .1,
+      before-next _ _,
+      rw (c .before .before .before .vertex-at2 .ensures),
+      rw (e, inv .2) (sym (fold-run-next (step _) _ _ _ _ l) ∙ inv .4),
+    )
 
-returns : tie.Need-returns Inv-loop μ-loop
-returns c = sym (fold-run-end (step _) _ _ _ _ (c .loop-test .left)) ∙ c .before .loop .inv .1
+returns-2 : tie.Need-returns-2 Inv-loop μ-loop
+returns-2 c = sym (fold-run-end (step _) _ _ _ _ (c .loop-test .left)) ∙ c .before .loop .inv .4 ∙ sym (contains-rust _ _)
 
 pub holds-spec : {M : Type 1} → statement M
-holds-spec = tie.close (tie.spec Inv-loop μ-loop loop-holds edge-at-requires crosses-requires add-i loop-less loop-again returns)
+holds-spec =
+    tie.close
+    (tie.spec
+    Inv-loop
+    μ-loop
+    returns
+    sub-j
+    vertex-at-requires
+    loop-holds
+    vertex-at-requires-2
+    crosses-requires
+    add-i
+    loop-less
+    loop-again
+    returns-2)

@@ -1,6 +1,7 @@
 -- `index::tree::hull_wide` meets its contract. Assumes nothing.
 use Rattle.entries.specs.Entries.{boxCount, wideAt}
-use Rattle.splits.specs.Tree.{hull, hullOf}
+use Rattle.boundary.specs.Boxes.{hull}
+use Rattle.splits.specs.Tree.{hullOf}
 use Rattle.index.proofs.GrowLaws.{run-ascends}
 use Rattle.boundary.proofs.FoldLaws.{fold-run-next, fold-run-end}
 use Rattle.boundary.specs.Folds.{run, fold}

@@ -1,29 +1,17 @@
--- `number::root::root_of` meets its contract: the bits that it gives are those of the root, rounded. Assumes nothing.
+-- `number::root::root_of` meets its contract: where the guess passes the check, its bits are those of the root, rounded. Assumes nothing.
 use mathlib.Core.Path.{_≡_, ap, _∙_}
-use Prim.Native.Nat.{ℕ, _+_, _-_, _*_, _/_, _%_, _^_, _≤_, _<_}
+use Prim.Native.Nat.{_+_, _-_, _*_, _/_, _%_, _^_, _≤_}
 use native.Mathlib.Omega.{arith}
 use borrow.Author.Needs.{needs}
 use lib.Ieee.{binary64, toBits, ofBits}
-use Rattle.number.specs.Root.{rootOf, Near}
 use Rattle.number.proofs.Tests.{lt-not-nan, bits-not-nan}
-use Rattle.number.proofs.NearRoot.{near-lt, root-is, parity-ge, parity-le}
+use Rattle.number.proofs.NearRoot.{root-is, parity-le}
 use Rattle.number.proofs.root.root_of.Statement.{statement}
 use Rattle.number.proofs.root.root_of.Tie as tie
 
 -- c, or twice c, has 53 or 54 digits
-d-ge : (c : tie.Start) → 2 ^ 52 ≤ c .args .c * (1 + c .args .w % 2)
-d-ge c = parity-ge (c .args .c) (c .args .w % 2) (omega arith) (c .pre .0)
-
 d-le : (c : tie.Start) → c .args .c * (1 + c .args .w % 2) ≤ 2 ^ 54 - 2
 d-le c = parity-le (c .args .c) (c .args .w % 2) (omega arith) (c .pre .1)
-
--- the digits q of the nearest root
-module _ (c : tie.Start) (q : ℕ) (near : Near (c .args .c * (1 + c .args .w % 2)) q) where
-  digits-lt : q < 2 ^ 53
-  digits-lt = near-lt (c .args .c * (1 + c .args .w % 2)) q (d-le c) near
-
-  is : ofBits binary64 ((c .args .w / 2 + 474) * 2 ^ 52 + q) ≡ rootOf (c .args .c * 2 ^ (c .args .w + 52))
-  is = root-is (c .args .c) (c .args .w) q (c .pre .0) (c .pre .1) (c .pre .2) (c .pre .3) near
 
 add-d : tie.Need-add-d
 add-d c = search needs
@@ -55,43 +43,20 @@ returns c =
     let r = toBits binary64 (g .guess .result) in
     let s = g .before in
     let e : r ≡ (s .args .w / 2 + 474) * 2 ^ 52 + (r % 2 ^ 52 + 2 ^ 52) = omega arith in
-    ap (ofBits binary64) e ∙ is s (r % 2 ^ 52 + 2 ^ 52) (c .before .is-root .ensures (c .if3 .taken))
+    ap (ofBits binary64) e
+    ∙ root-is (s .args .c) (s .args .w) (r % 2 ^ 52 + 2 ^ 52) (s .pre .0) (s .pre .1) (s .pre .2) (s .pre .3) (c .before .is-root .ensures (c .if3 .taken))
 
-add-result : tie.Need-add-result
-add-result c = search needs
-
-mul-result : tie.Need-mul-result
-mul-result c = search needs
-
-nearest-root-requires : tie.Need-nearest-root-requires
-nearest-root-requires c κs = let s = c .before .before .before in (d-ge s, d-le s, omega arith, omega arith)
-
-add-result-2 : tie.Need-add-result-2
-add-result-2 c = omega (arith, digits-lt (c .before .before .before .before) _ (c .nearest-root .ensures))
-
-float-from-bits-result-2 : tie.Need-float-from-bits-result-2
-float-from-bits-result-2 c = bits-not-nan _ (omega (arith, digits-lt (c .before .before .before .before) _ (c .nearest-root .ensures)))
+root-by-digits-requires : tie.Need-root-by-digits-requires
+root-by-digits-requires c κs = search needs
 
 returns-2 : tie.Need-returns-2
-returns-2 c = is (c .before .before .before .before) _ (c .nearest-root .ensures)
+returns-2 c = search needs
 
-add-result-3 : tie.Need-add-result-3
-add-result-3 c = search needs
-
-mul-result-2 : tie.Need-mul-result-2
-mul-result-2 c = search needs
-
-bisect-requires : tie.Need-bisect-requires
-bisect-requires c κs = let s = c .before .before in (d-ge s, d-le s)
-
-add-result-4 : tie.Need-add-result-4
-add-result-4 c = omega (arith, digits-lt (c .before .before .before) _ (c .bisect .ensures))
-
-float-from-bits-result-3 : tie.Need-float-from-bits-result-3
-float-from-bits-result-3 c = bits-not-nan _ (omega (arith, digits-lt (c .before .before .before) _ (c .bisect .ensures)))
+root-by-digits-requires-2 : tie.Need-root-by-digits-requires-2
+root-by-digits-requires-2 c κs = search needs
 
 returns-3 : tie.Need-returns-3
-returns-3 c = is (c .before .before .before) _ (c .bisect .ensures)
+returns-3 c = search needs
 
 pub root-of-spec : {M : Type 1} → statement M
 root-of-spec =
@@ -106,15 +71,7 @@ root-of-spec =
     is-root-requires
     float-from-bits-result
     returns
-    add-result
-    mul-result
-    nearest-root-requires
-    add-result-2
-    float-from-bits-result-2
+    root-by-digits-requires
     returns-2
-    add-result-3
-    mul-result-2
-    bisect-requires
-    add-result-4
-    float-from-bits-result-3
+    root-by-digits-requires-2
     returns-3)

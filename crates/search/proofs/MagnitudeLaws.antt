@@ -1,0 +1,192 @@
+-- The magnitude of an outline's distance is the distance of one of its edges, a number below infinity, and the gap of every box around the outline's widened box is at most that. Assumes nothing.
+use mathlib.Core.Path.{_≡_, refl, sym, _∙_}
+use mathlib.Core.Bool.{Bool, true, false, cond, true≢false}
+use mathlib.Core.List.{List, []}
+use Prim.Native.Nat.{ℕ, zero, suc, _+_, _*_, _^_, _≤_, _<_}
+use native.Mathlib.Decide.{ℕ-discrete}
+use native.Mathlib.Nat.{zero-lt-suc, mul-pos}
+use native.Mathlib.Omega.{arith}
+use borrow.Author.Tests.{eqb-true, eqb-false, ltb-false}
+use lib.Dec.{T, eqb}
+use lib.IntN.{ℤ, pos, negsuc}
+use lib.ListN.{length, getD}
+use lib.Ieee.{Float, nan, inf, fin, up, down, binary64, sub, neg, lt, le, fits}
+use lib.Ieee.Bits.{is-true}
+use lib.Ieee.Fits.{up-pos}
+use lib.Pow.{pow-pos}
+use Rattle.number.specs.Exact.{zeroᶠ}
+use Rattle.number.specs.Root.{Plus, plus-inf, plus-fin}
+use Rattle.signs.specs.Signs.{absOf}
+use Rattle.number.proofs.HypotLaws.{hypot-fits, hypot-plus}
+use Rattle.number.proofs.Values.{held-not-nan}
+use Rattle.boundary.specs.declared.Point.{Point}
+use Rattle.boundary.specs.declared.Edge.{Edge}
+use Rattle.boundary.specs.declared.Near.{Near}
+use Rattle.boundary.specs.declared.Distance.{Distance}
+use Rattle.boundary.specs.declared.Bounds.{Bounds}
+use Rattle.boundary.specs.Boxes.{PointOf, FieldValue, FieldPoint, FieldEdge, FieldBox, FiniteBox, Inside, Around, nowhere, spot, stretched, widenedOf, gapOf}
+use Rattle.boundary.specs.Folds.{run, fold}
+use Rattle.boundary.specs.Line.{footOf, lineNear}
+use Rattle.distance.specs.Nearest.{nearer, farAway, nearestOf, roundingOf, flipped, awayAlong, signedOf}
+use Rattle.boundary.specs.Outline.{count, after, vertexAt, edgeAt, vertices, edges}
+use Rattle.pieces.specs.Piece.{pieceNear}
+use Rattle.boundary.proofs.BoxLaws.{around-inside, gap-around}
+use Rattle.boundary.proofs.FieldLaws.{field-not-nan}
+use Rattle.distance.proofs.SearchLaws.{foot-near, near-finite, step}
+use Rattle.geometry.specs.Polygon.{boundsOf, containsOf}
+use Rattle.boundary.proofs.AroundLaws.{Number, NumberBox, around-self, around-through, hull-number, hull-around, nowhere-number}
+use Rattle.search.specs.Least.{magnitudeOf}
+
+-- ---- the magnitude of a signed distance is the distance
+-- `f64` has one +0
+plus-zero : (e : ℤ) → T (fits binary64 (fin false 0 e)) → fin false 0 e ≡ zeroᶠ
+unfolding fits
+plus-zero (pos zero) h = refl
+plus-zero (pos (suc k)) h = absurd (omega (arith, eqb-true (2 ^ suc k * 1) 1 (is-true (eqb (2 ^ suc k * 1) 1) h), pow-pos k))
+plus-zero (negsuc k) h = absurd (omega (arith, eqb-true (1 * 2 ^ suc k) 1 (is-true (eqb (1 * 2 ^ suc k) 1) h), pow-pos k))
+
+-- no minus sign, and an `f64` below infinity
+pub record Length (x : Float) : Type 0 where
+  pub plus : Plus x
+  pub fits : T (fits binary64 x)
+  pub finite : lt x (inf false) ≡ true
+
+not-above-zero : {x : Float} → Plus x → T (fits binary64 x) → lt zeroᶠ x ≡ false → zeroᶠ ≡ x
+unfolding lt
+not-above-zero plus-inf F h = absurd (true≢false h)
+not-above-zero (plus-fin zero e) F h = sym (plus-zero e F)
+not-above-zero (plus-fin (suc m) e) F h =
+    let l = ltb-false (0 * 1 * down e) (suc m * up e * 1) h in
+    let q : 0 < suc m * up e = mul-pos (zero-lt-suc m) (up-pos e) in
+    absurd (omega arith)
+
+abs-flipped : {x : Float} → Plus x → (inside : Bool) → absOf (flipped inside x) ≡ x
+unfolding absOf neg
+abs-flipped plus-inf true = refl
+abs-flipped plus-inf false = refl
+abs-flipped (plus-fin m e) true = refl
+abs-flipped (plus-fin m e) false = refl
+
+abs-zero : absOf zeroᶠ ≡ zeroᶠ
+unfolding absOf
+abs-zero = refl
+
+signed-magnitude : (c : Near) (p : Point) (inside : Bool) → Plus (c .d) → T (fits binary64 (c .d)) → absOf (signedOf c p inside .d) ≡ c .d
+unfolding signedOf
+signed-magnitude c p inside h F = go (lt (roundingOf (c .q) p) (c .d)) (lt zeroᶠ (c .d)) refl
+  where
+    go : (s t : Bool) → lt zeroᶠ (c .d) ≡ t → absOf (cond {A = Distance} s (record { d = flipped inside (c .d); v = record { x = awayAlong inside (p .x) (c .q .x) (c .d); y = awayAlong inside (p .y) (c .q .y) (c .d) } }) (cond t (record { d = flipped inside (c .d); v = c .n }) (record { d = zeroᶠ; v = c .n })) .d) ≡ c .d
+    go true t e = abs-flipped h inside
+    go false true e = abs-flipped h inside
+    go false false e = abs-zero ∙ not-above-zero h F e
+
+-- ---- the distance of an edge
+edge-length : {e : Edge} {p : Point} → FieldEdge e → FieldPoint p → Length (lineNear e p .d)
+unfolding lineNear
+edge-length {e} {p} E P =
+    let s = foot-near E P in
+    let x = sub binary64 (p .x) (footOf e p .x) in
+    let y = sub binary64 (p .y) (footOf e p .y) in
+    record {
+      plus = hypot-plus x y (held-not-nan (s .x .held)) (held-not-nan (s .y .held));
+      fits = hypot-fits x y;
+      finite = near-finite E P;
+    }
+
+-- ---- a box stretched to points has each of them
+record Stretched (b : Bounds) (q : Point) (r : Bounds) : Type 0 where
+  number : NumberBox r
+  around : Around r b
+  inside : Inside q r
+
+stretched-has : (b : Bounds) (q : Point) → NumberBox b → PointOf Number q → Stretched b q (stretched b q)
+stretched-has b q B Q =
+    let both = hull-around b (spot q) B (record { min = Q; max = Q }) in
+    record {
+      number = hull-number b (spot q) B (record { min = Q; max = Q });
+      around = both .0;
+      inside = record { x = record { low = both .1 .left; high = both .1 .right }; y = record { low = both .1 .bottom; high = both .1 .top } };
+    }
+
+record Boxed (b : Bounds) (g : ℕ → Point) (i n : ℕ) (r : Bounds) : Type 0 where
+  around : Around r b
+  inside : (j : ℕ) → i ≤ j → j < n → Inside (g j) r
+
+boxed : (g : ℕ → Point) (i m : ℕ) (b : Bounds) → NumberBox b → ((j : ℕ) → j < i + m → PointOf Number (g j)) → Boxed b g i (i + m) (fold stretched b (run g i m))
+unfolding fold run
+boxed g i zero b B N = record { around = around-self b B; inside = λ j l h. absurd (omega arith) }
+boxed g i (suc m) b B N =
+    let s = stretched-has b (g i) B (N i (omega arith)) in
+    let r = boxed g (suc i) m (stretched b (g i)) (s .number) (λ j h. N j (omega arith)) in
+    let f = fold stretched (stretched b (g i)) (run g (suc i) m) in
+    record { around = around-through f (stretched b (g i)) b (r .around) (s .around); inside = λ j l h. at f j l h s r (ℕ-discrete j i) }
+  where
+    at : (f : Bounds) (j : ℕ) → i ≤ j → j < i + suc m → Stretched b (g i) (stretched b (g i)) → Boxed (stretched b (g i)) g (suc i) (suc i + m) f → Dec (j ≡ i) → Inside (g j) f
+    at f j l h s r (yes e) = rw e (around-inside (r .around) (s .inside))
+    at f j l h s r (no a) = r .inside j (omega arith) (omega arith)
+
+-- ---- an outline whose numbers are all of the field
+module _ (o : List Float) (N : (i : ℕ) → i < length o → FieldValue (getD o i nan)) where
+  vertex-field : (i : ℕ) → i < count o → FieldPoint (vertexAt o i)
+  vertex-field i l = record { x = N (2 * i) (omega arith); y = N (2 * i + 1) (omega arith) }
+
+  after-within : (i : ℕ) → i < count o → after (count o) i < count o
+  after-within i l = go (eqb (i + 1) (count o)) refl
+    where
+      go : (b : Bool) → eqb (i + 1) (count o) ≡ b → cond b 0 (i + 1) < count o
+      go true e = omega arith
+      go false e = let d = eqb-false (i + 1) (count o) e in omega arith
+
+  edge-field : (i : ℕ) → i < count o → FieldEdge (edgeAt o i)
+  edge-field i l = record { a = vertex-field i l; b = vertex-field (after (count o) i) (after-within i l) }
+
+  -- its box has every vertex
+  vertex-inside : (i : ℕ) → i < count o → Inside (vertexAt o i) (boundsOf (vertices o))
+  unfolding boundsOf vertices
+  vertex-inside i l = boxed (vertexAt o) 0 (count o) nowhere nowhere-number number .inside i (omega arith) (omega arith)
+    where
+      number : (j : ℕ) → j < 0 + count o → PointOf Number (vertexAt o j)
+      number j h = let v = vertex-field j (omega arith) in record { x = field-not-nan (v .x); y = field-not-nan (v .y) }
+
+  module _ (p : Point) (P : FieldPoint p) (some : 0 < count o) where
+    -- what holds of the distance of every edge holds of the nearest
+    later : (Q : Near → Type 0) → ((i : ℕ) → i < count o → Q (lineNear (edgeAt o i) p)) → (i m : ℕ) → i + m ≤ count o → (best : Near) → Q best → Q (fold (step p) best (run (edgeAt o) i m))
+    unfolding fold run pieceNear
+    later Q h i zero l best q = q
+    later Q h i (suc m) l best q = later Q h (suc i) m (omega arith) (nearer best (lineNear (edgeAt o i) p)) (pick (lt (lineNear (edgeAt o i) p .d) (best .d)))
+      where
+        pick : (b : Bool) → Q (cond b (lineNear (edgeAt o i) p) best)
+        pick true = h i (omega arith)
+        pick false = q
+
+    from-first : (Q : Near → Type 0) → ((i : ℕ) → i < count o → Q (lineNear (edgeAt o i) p)) → (n : ℕ) → 0 < n → n ≤ count o → Q (fold (step p) (farAway p) (run (edgeAt o) 0 n))
+    unfolding fold run pieceNear
+    from-first Q h zero l m = absurd (omega arith)
+    from-first Q h (suc n) l m = later Q h 1 n (omega arith) (nearer (farAway p) (lineNear (edgeAt o 0) p)) (rw (near-finite (edge-field 0 (omega arith)) P) (h 0 (omega arith)))
+
+    nearest-one-of : (Q : Near → Type 0) → ((i : ℕ) → i < count o → Q (lineNear (edgeAt o i) p)) → Q (nearestOf (edges o) p)
+    unfolding nearestOf edges
+    nearest-one-of Q h = from-first Q h (count o) some (omega arith)
+
+    near-length : Length (nearestOf (edges o) p .d)
+    near-length = nearest-one-of (λ c. Length (c .d)) (λ i l. edge-length (edge-field i l) P)
+
+    -- THE MAGNITUDE is the distance of the nearest edge
+    pub magnitude-is : magnitudeOf o p ≡ nearestOf (edges o) p .d
+    unfolding magnitudeOf
+    magnitude-is = signed-magnitude (nearestOf (edges o) p) p (containsOf (edges o) p) (near-length .plus) (near-length .fits)
+
+    pub magnitude-length : Length (magnitudeOf o p)
+    magnitude-length = rw magnitude-is near-length
+
+    -- THE GAP of every finite box around the outline's widened box is at most it
+    pub gap-magnitude : (n : Bounds) → FieldBox (boundsOf (vertices o)) → FiniteBox n → Around n (widenedOf (boundsOf (vertices o))) → T (le (gapOf n p) (magnitudeOf o p))
+    gap-magnitude n B F A =
+        rw magnitude-is
+        (nearest-one-of (λ c. T (le (gapOf n p) (c .d)))
+        (λ i l. gap-around (edge-field i l) P B (vertex-inside i l) (vertex-inside (after (count o) i) (after-within i l)) F A))
+
+-- no outline is infinitely far
+pub magnitude-none : (p : Point) → magnitudeOf [] p ≡ inf false
+unfolding magnitudeOf edges nearestOf run fold
+magnitude-none p = signed-magnitude (farAway p) p (containsOf [] p) plus-inf (unfold fits in tt)

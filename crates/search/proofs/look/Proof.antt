@@ -1,0 +1,73 @@
+-- `search::look` meets its contract: the best so far and the items that are left give the best of all. Assumes nothing.
+use mathlib.Core.Path.{_≡_}
+use Prim.Native.Nat.{_+_, _-_, _≤_}
+use Rattle.boundary.specs.Folds.{run, fold}
+use Rattle.nodes.specs.Layout.{itemAt}
+use Rattle.search.specs.Least.{magnitudeAt}
+use Rattle.search.specs.Walk.{improved, bestOf}
+use borrow.Author.Needs.{needs}
+use Rattle.search.proofs.LookLaws.{look-first, look-item, look-next, look-end}
+use Rattle.search.proofs.look.Statement.{statement}
+use Rattle.search.proofs.look.Tie as tie
+
+abbrev Inv-loop : tie.InvT-loop
+Inv-loop v counts starts items first count p best₀ i₀ best i = (i ≤ count) × (fold (λ b k. improved b k (magnitudeAt v counts p k)) best (run (itemAt items) (first + i) (count - i)) ≡ bestOf (magnitudeAt v counts p) best₀ (run (itemAt items) first count))
+
+abbrev μ-loop : tie.MeasureT-loop
+μ-loop v counts starts items first count p best₀ i₀ best i = count - i
+
+loop-holds : tie.Need-loop-holds Inv-loop μ-loop
+loop-holds c = let a = c .before .before .before .before .args in (search needs, look-first (magnitudeAt (a .v .now) (a .counts .now) (a .p)) (a .items .now) (a .first) (a .count) (a .start))
+
+cast-at : tie.Need-cast-at Inv-loop μ-loop
+cast-at c = search needs
+
+add-at : tie.Need-add-at Inv-loop μ-loop
+add-at c = search needs
+
+at-requires : tie.Need-at-requires Inv-loop μ-loop
+at-requires c κs = search needs
+
+magnitude-requires : tie.Need-magnitude-requires Inv-loop μ-loop
+magnitude-requires c κs =
+    let s = c .before .before .before .before .before .before .before in
+    let a = s .args in
+    (s .pre .0, look-item (magnitudeAt (a .v .now) (a .counts .now) (a .p)) (a .items .now) (a .first) (a .count) (c .before .before .loop .i) (c .before .loop-test .taken) _ (c .at .ensures) _ (s .pre .1))
+
+improve-requires : tie.Need-improve-requires Inv-loop μ-loop
+improve-requires c κs = search needs
+
+add-i : tie.Need-add-i Inv-loop μ-loop
+add-i c = search needs
+
+loop-less : tie.Need-loop-less Inv-loop μ-loop
+loop-less c = search needs
+
+loop-again : tie.Need-loop-again Inv-loop μ-loop
+loop-again c =
+    let l = c .before .before .before .before .loop in
+    let a = c .before .before .before .before .before .before .before .before .before .args in
+    (search needs, look-next (magnitudeAt (a .v .now) (a .counts .now) (a .p)) (a .items .now) (a .first) (a .count) (l .i) (l .best) _ (l .inv .1) (c .before .before .before .loop-test .taken) _ _ _ (c .before .before .at .ensures) (c .before .magnitude .ensures) (c .improve .ensures))
+
+returns : tie.Need-returns Inv-loop μ-loop
+returns c =
+    let l = c .before .loop in
+    let a = c .before .before .before .before .before .before .args in
+    look-end (magnitudeAt (a .v .now) (a .counts .now) (a .p)) (a .items .now) (a .first) (a .count) (l .i) (l .best) _ (l .inv .1) (c .loop-test .left)
+
+pub look-spec : {M : Type 1} → statement M
+look-spec =
+    tie.close
+    (tie.spec
+    Inv-loop
+    μ-loop
+    loop-holds
+    cast-at
+    add-at
+    at-requires
+    magnitude-requires
+    improve-requires
+    add-i
+    loop-less
+    loop-again
+    returns)

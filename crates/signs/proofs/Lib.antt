@@ -1,0 +1,4 @@
+-- Laws of signs.
+
+-- The sign bit, and what is computed by it.
+pub mod SignLaws

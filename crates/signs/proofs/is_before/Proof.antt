@@ -1,0 +1,15 @@
+-- `signs::is_before` meets its contract. Assumes nothing.
+use borrow.Author.Needs.{needs}
+use Rattle.signs.specs.Signs.{before}
+use Rattle.signs.proofs.is_before.Statement.{statement}
+use Rattle.signs.proofs.is_before.Tie as tie
+
+sign-bit-requires : tie.Need-sign-bit-requires
+sign-bit-requires c κs = search needs
+
+returns : tie.Need-returns
+unfolding before
+returns c = rw (c .sign-bit .ensures)
+
+pub is-before-spec : {M : Type 1} → statement M
+is-before-spec = tie.close (tie.spec sign-bit-requires returns)
