@@ -1,13 +1,14 @@
--- The threshold of `signed` over the whole field: it is at most 2 ^ -25. Assumes nothing.
-use mathlib.Core.Path.{_≡_, sym, subst}
-use mathlib.Core.Bool.{true}
+-- What `signed` rests on: over the whole field its threshold is at most 2 ^ -25, and the normal comes from the signed distance as from the magnitude. Assumes nothing.
+use mathlib.Core.Path.{_≡_, refl, sym, subst}
+use mathlib.Core.Bool.{Bool, true, false}
 use native.Mathlib.Nat.{le-trans}
 use lib.Dec.{T, lit≤}
-use lib.Ieee.{Float, mul, lt, le, eq, fits}
+use lib.Ieee.{Float, binary64, mul, div, lt, le, eq, fits}
 use lib.Ieee.Bits.{is-true}
 use Rattle.number.specs.Exact.{Held}
 use Rattle.number.specs.Hypot.{shortEnd, Short}
 use Rattle.signs.specs.Signs.{absOf}
+use Rattle.number.proofs.RoundingLaws.{div-opposite}
 use Rattle.number.proofs.Monotone.{mul-mono-left}
 use Rattle.number.proofs.OrderLaws.{max-one-of, through-below}
 use Rattle.number.proofs.Values.{abs-held, is-short}
@@ -15,7 +16,7 @@ use Rattle.boundary.specs.declared.Point.{Point}
 use Rattle.boundary.specs.declared.Edge.{Edge}
 use Rattle.boundary.specs.Line.{footOf}
 use Rattle.boundary.specs.Boxes.{PointOf, FieldValue, FieldPoint, FieldEdge}
-use Rattle.distance.specs.Nearest.{units16, roundingOf}
+use Rattle.distance.specs.Nearest.{units16, roundingOf, flipped}
 use Rattle.distance.specs.Search.{clear}
 use Rattle.boundary.proofs.FieldLaws.{field-is}
 use Rattle.boundary.proofs.AlongLaws.{param-share, along-at-most}
@@ -45,3 +46,8 @@ threshold {q} {p} Q P =
 -- so what is above 2 ^ -25 is above it
 pub above-threshold : {q p : Point} (m : Float) → PointOf Short q → FieldPoint p → lt clear m ≡ true → lt (roundingOf q p) m ≡ true
 above-threshold {q} {p} m Q P h = is-true (lt (roundingOf q p) m) (through-below (roundingOf q p) clear m (threshold Q P) (subst T (sym h) tt))
+
+-- what is divided by the signed distance has the sign of the normal
+pub away-signed : (inside : Bool) (x m : Float) → div binary64 x (flipped inside m) ≡ flipped inside (div binary64 x m)
+away-signed true x m = div-opposite binary64 x m
+away-signed false x m = refl

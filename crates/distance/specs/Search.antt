@@ -1,6 +1,8 @@
 -- How the nearest edge is found: an edge whose box, widened, is clearly farther than the nearest point so far is left out. Inner: no export's promise speaks of it. Definitions only.
+use mathlib.Core.Path.{_≡_}
 use mathlib.Core.Bool.{Bool, false, not, cond}
-use Prim.Native.Nat.{ℕ}
+use mathlib.Core.List.{List}
+use Prim.Native.Nat.{ℕ, _<_}
 use lib.Dec.{ltb}
 use lib.IntN.{negsuc}
 use lib.Ieee.{Float, fin, binary64, add, sub, lt}
@@ -9,8 +11,10 @@ use Rattle.number.specs.Hypot.{hypotOf, clearLimit}
 use Rattle.boundary.specs.declared.Point.{Point}
 use Rattle.boundary.specs.declared.Edge.{Edge}
 use Rattle.distance.specs.declared.Found.{Found}
-use Rattle.boundary.specs.Line.{lessPoint, squaresOf, footOf}
+use Rattle.boundary.specs.Outline.{count, edgeAt, edges}
+use Rattle.boundary.specs.Line.{lessPoint, squaresOf, footOf, lineNear}
 use Rattle.boundary.specs.Boxes.{lesser, greater}
+use Rattle.distance.specs.Nearest.{nearestOf}
 
 -- 2 ^ -20, by which an edge's box is widened
 abbrev pub margin : Float
@@ -39,3 +43,9 @@ foundOf e i p = let q = footOf e p in record { i = i; q = q; far = clearLimit (s
 -- the i-th edge, at the distance c, wins over the j-th, at the distance d: it is nearer, or the first of two that are equally near
 abbrev pub wins : ℕ → Float → ℕ → Float → Bool
 wins i c j d = cond (ltb i j) (not (lt d c)) (lt c d)
+
+-- f is the edge of the outline v that has its nearest point to p, the first among equals
+pub record NearestEdge (v : List Float) (p : Point) (f : Found) : Type 0 where
+  pub edge : f .i < count v
+  pub found : f ≡ foundOf (edgeAt v (f .i)) (f .i) p
+  pub nearest : lineNear (edgeAt v (f .i)) p ≡ nearestOf (edges v) p

@@ -6,11 +6,11 @@ ghost use lib.Dec.{eqb};
 ghost use lib.Ieee.{inf, lt};
 ghost use Rattle.number.specs.Hypot.{clearLimit, Short};
 ghost use Rattle.boundary.specs.Folds.{any};
-ghost use Rattle.boundary.specs.Outline.{count, edgeAt, edges};
+ghost use Rattle.boundary.specs.Outline.{count, edges};
 ghost use Rattle.boundary.specs.Boxes.{inField, pointInField, edgeInField, PointOf};
 ghost use Rattle.boundary.specs.Line.{lessPoint, squaresOf, footOf, normalOf, lineNear};
 ghost use Rattle.distance.specs.Nearest.{nearestOf, roundingOf, flipped, signedOf};
-ghost use Rattle.distance.specs.Search.{outside, gapSquares, lengthTo, foundOf, wins};
+ghost use Rattle.distance.specs.Search.{outside, gapSquares, lengthTo, foundOf, wins, NearestEdge};
 use crate::Found;
 use boundary::Distance;
 use boundary::Edge;
@@ -157,8 +157,7 @@ fn first_turn(k: usize) -> usize
 // has to wait for.
 fn edge_near(v: &[f64], x: f64, y: f64) -> Found
     requires { ⌜ (any (λ x. not (inField x)) (now v) ≡ false) × (pointInField (record { x = x; y = y }) ≡ true) × (0 < count (now v)) ⌝ }
-    ensures { λ r. ⌜ (r .i < count (now (v .entry))) × (r ≡ foundOf (edgeAt (now (v .entry)) (r .i)) (r .i) (record { x = x; y = y }))
-        × (lineNear (edgeAt (now (v .entry)) (r .i)) (record { x = x; y = y }) ≡ nearestOf (edges (now (v .entry))) (record { x = x; y = y })) ⌝ }
+    ensures { λ r. ⌜ NearestEdge (now (v .entry)) (record { x = x; y = y }) r ⌝ }
 {
     let p = Point { x, y };
     let n = v.len() / 2;
@@ -175,8 +174,7 @@ fn edge_near(v: &[f64], x: f64, y: f64) -> Found
 // The same of a point.
 pub fn nearest_edge(v: &[f64], p: Point) -> Found
     requires { ⌜ (any (λ x. not (inField x)) (now v) ≡ false) × (pointInField p ≡ true) × (0 < count (now v)) ⌝ }
-    ensures { λ r. ⌜ (r .i < count (now (v .entry))) × (r ≡ foundOf (edgeAt (now (v .entry)) (r .i)) (r .i) p)
-        × (lineNear (edgeAt (now (v .entry)) (r .i)) p ≡ nearestOf (edges (now (v .entry))) p) ⌝ }
+    ensures { λ r. ⌜ NearestEdge (now (v .entry)) p r ⌝ }
 {
     edge_near(v, p.x, p.y)
 }
@@ -217,8 +215,8 @@ fn signed(e: Edge, q: Point, m: f64, p: Point, inside: bool) -> Distance
         return Distance {
             d,
             v: Point {
-                x: flip(inside, (p.x - q.x) / m),
-                y: flip(inside, (p.y - q.y) / m),
+                x: (p.x - q.x) / d,
+                y: (p.y - q.y) / d,
             },
         };
     }
@@ -229,12 +227,12 @@ fn signed(e: Edge, q: Point, m: f64, p: Point, inside: bool) -> Distance
     Distance { d: 0.0, v }
 }
 
-// The signed distance of p from the outline's edges, and the normal there.
-pub fn distance(v: &[f64], p: Point, inside: bool) -> Distance
-    requires { ⌜ (any (λ x. not (inField x)) (now v) ≡ false) × (pointInField p ≡ true) × (0 < count (now v)) ⌝ }
+// The signed distance of p from the outline's edges, and the normal there, from the edge f that has the nearest
+// point. What is worked out between the search for f and this call costs little: the root waits for the search.
+pub fn distance(v: &[f64], f: Found, p: Point, inside: bool) -> Distance
+    requires { ⌜ (any (λ x. not (inField x)) (now v) ≡ false) × (pointInField p ≡ true) × NearestEdge (now v) p f ⌝ }
     ensures { λ r. ⌜ r ≡ signedOf (nearestOf (edges (now (v .entry))) p) p inside ⌝ }
 {
-    let f = edge_near(v, p.x, p.y);
     let q = f.q;
     let m = hypot(p.x - q.x, p.y - q.y);
     signed(edge_at(v, f.i), q, m, p, inside)

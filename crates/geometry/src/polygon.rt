@@ -160,12 +160,17 @@ pub fn locate(v: &[f64], p: Point) -> Answer
     }
 }
 
-// The signed distance of p, negative where the outline contains it, and the normal.
+// The signed distance of p, negative where the outline contains it, and the normal. Whether it does is worked out
+// while the processor still searches.
 pub fn distance(v: &[f64], p: Point) -> Answer
     ensures { λ r. ⌜ r ≡ distanceAnswer (now (v .entry)) p ⌝ }
 {
     match refusals::point_tested(p, refusals::outline_tested(v)) {
-        Test::Passed => Answer::Away(distance::nearest::distance(v, p, holds(v, p))),
+        Test::Passed => {
+            let edge = distance::nearest::nearest_edge(v, p);
+            let inside = holds(v, p);
+            Answer::Away(distance::nearest::distance(v, edge, p, inside))
+        }
         Test::Failed(r) => Answer::Refused(r),
     }
 }

@@ -7,10 +7,10 @@ use Prim.Native.Nat.{ℕ, zero, suc, _+_, _-_, _*_, _/_, _%_, _^_, _≤_, _<_, z
 use native.Mathlib.Nat.{le-trans, le-of-eq, lt-of-lt-of-le, lt-of-le-of-lt, lt-of-not-le, lt-irrefl, mul-assoc, mul-comm, mul-one, one-mul, mul-pos, mul-le-mul-right, div-add-mod', div-mul-le-self, mod-lt, eq-or-lt-of-le, eq-zero-or-pos, pow-succ'}
 use native.Mathlib.Decide.{decLe}
 use native.Mathlib.Omega.{arith}
-use lib.Dec.{T, isLe, isEq, ltb, leb→le, nleb→lt, eqb→eq, lit≤, lit<}
+use lib.Dec.{T, isLe, isEq, ltb, eqb, leb→le, nleb→lt, eqb→eq, lit≤, lit<}
 use lib.IntN.{ℤ, pos, negℤ, natAbs, _+ℤ_, _-ℤ_, _*ℤ_, negℤ-negℤ, *ℤ-comm}
 use lib.Pow.{pow-add, pow-pos, pow-mono, shl-lt}
-use lib.Ieee.{Float, inf, fin, Format, binary64, prec, emax, low, size, nearest, odd, units, round, neg, le}
+use lib.Ieee.{Float, nan, inf, fin, Format, binary64, prec, emax, low, up, down, unlike, size, nearest, odd, units, round, div, neg, le}
 use lib.Ieee.Digits.{size-reaches, back}
 use lib.Ieee.Fits.{round-is}
 use lib.Ieee.Exact.{HasValue, units-val, round-exact}
@@ -65,9 +65,32 @@ units-opposite f s q k = go (ltb (q * 2 ^ k) (2 ^ (low f + suc (emax f)))) q
     go true (suc q) = refl
     go false q = refl
 
+turned : (s t : Bool) → unlike s (not t) ≡ not (unlike s t)
+turned true true = refl
+turned true false = refl
+turned false true = refl
+turned false false = refl
+
 -- the opposite fraction rounds to the opposite value
 pub round-opposite : (f : Format) (s : Bool) (a c : ℕ) → round f (not s) a c ≡ neg (round f s a c)
 round-opposite f s a c = round-is f (not s) a c ∙ units-opposite f s (kept (prec f) (a * 2 ^ low f) c) (drop (prec f) (a * 2 ^ low f) c) ∙ ap neg (sym (round-is f s a c))
+
+-- a quotient by the opposite is the opposite
+pub div-opposite : (f : Format) (x y : Float) → div f x (neg y) ≡ neg (div f x y)
+unfolding div neg
+div-opposite f nan y = refl
+div-opposite f (inf s) nan = refl
+div-opposite f (inf s) (inf t) = refl
+div-opposite f (inf s) (fin t n d) = ap inf (turned s t)
+div-opposite f (fin s m e) nan = refl
+div-opposite f (fin s m e) (inf t) = ap (λ (u : Bool). fin u 0 (pos 0)) (turned s t)
+div-opposite f (fin s m e) (fin t n d) = rw (turned s t, round-opposite f (unlike s t) (m * up e * down d) (n * up d * down e)) (go (eqb n 0) (eqb m 0))
+  where
+    go : (a b : Bool) → cond a (cond b nan (inf (not (unlike s t)))) (neg (round f (unlike s t) (m * up e * down d) (n * up d * down e)))
+        ≡ neg (cond a (cond b nan (inf (unlike s t))) (round f (unlike s t) (m * up e * down d) (n * up d * down e)))
+    go true true = refl
+    go true false = refl
+    go false b = refl
 
 pub rounds-neg : {x : Float} {n : ℤ} {c : ℕ} → Rounds x n c → Rounds (neg x) (negℤ n) c
 rounds-neg {c = c} h = record { sign = not (h .sign); mag = h .mag; den-pos = h .den-pos; same = ap neg (h .same) ∙ sym (round-opposite binary64 (h .sign) (h .mag) c); val = sym (neg-signed (h .sign) (h .mag)) ∙ ap negℤ (h .val) }

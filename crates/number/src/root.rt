@@ -104,8 +104,8 @@ fn guess(i: u64) -> f64
         let b = f64::to_bits(s);
         let u = f64::from_bits(b - b % 0x800_0000);
         let k = 0.5 * y2;
-        let r = (z - u * u) * k;
-        return u + r * (2.0 - u * y2 - r * k);
+        let d = z - u * u;
+        return u + d * k * (2.0 - u * y2 - d * (k * k));
     }
     s
 }

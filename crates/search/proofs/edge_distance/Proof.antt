@@ -13,7 +13,7 @@ hypot-requires : tie.Need-hypot-requires
 hypot-requires c κs = search needs
 
 returns : tie.Need-returns
-returns c = let f = c .before .before .before .before .before .before .nearest-edge .ensures in rw (c .hypot .ensures, ← f .2) (ap (λ (k : Near). k .d) (found-near _ _ _ (f .1)))
+returns c = let f = c .before .before .before .before .before .before .nearest-edge .ensures in rw (c .hypot .ensures, ← f .nearest) (ap (λ (k : Near). k .d) (found-near _ _ _ (f .found)))
 
 pub edge-distance-spec : {M : Type 1} → statement M
 edge-distance-spec = tie.close (tie.spec nearest-edge-requires hypot-requires returns)

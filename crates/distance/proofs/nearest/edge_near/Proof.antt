@@ -67,7 +67,7 @@ loop-again c =
     searched-next _ (t .before .loop .inv) (t .loop-test .taken) (n .1) (n .2) (n .0)
 
 returns : tie.Need-returns Inv-loop μ-loop
-returns c = let s = c .before .loop .inv in (s .edge, s .found, searched-end s (c .loop-test .left))
+returns c = let s = c .before .loop .inv in record { edge = s .edge; found = s .found; nearest = searched-end s (c .loop-test .left) }
 
 pub edge-near-spec : {M : Type 1} → statement M
 edge-near-spec = tie.close (tie.spec Inv-loop μ-loop near-vertex-requires edge-at-requires found-requires first-turn-requires loop-holds edge-at-requires-2 nearer-edge-requires add-i loop-less loop-again returns)

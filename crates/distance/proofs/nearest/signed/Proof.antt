@@ -3,7 +3,7 @@ use borrow.Author.Needs.{needs}
 use lib.Ieee.{ofBits}
 use Rattle.distance.specs.Nearest.{signedOf}
 use Rattle.boundary.proofs.KnownLaws.{owned-point, owned-edge}
-use Rattle.distance.proofs.ClearLaws.{foot-at-most}
+use Rattle.distance.proofs.ClearLaws.{foot-at-most, away-signed}
 use Rattle.distance.proofs.nearest.signed.Statement.{statement}
 use Rattle.distance.proofs.nearest.signed.Tie as tie
 
@@ -17,18 +17,13 @@ is-clear-requires c κs =
     let P = owned-point (s .good .1 .1 .1 .0) (s .pre .1) in
     (rw (s .pre .2) (foot-at-most E P), s .pre .1)
 
-flip-requires-2 : tie.Need-flip-requires-2
-flip-requires-2 c κs = search needs
-
-flip-requires-3 : tie.Need-flip-requires-3
-flip-requires-3 c κs = search needs
-
 returns : tie.Need-returns
 unfolding signedOf
 returns c =
-    let d = c .before .before .before in
-    let e = d .before .before .before in
-    rw (← e .before .is-clear .ensures, e .if1 .taken, c .flip3 .ensures, d .flip2 .ensures, e .before .before .flip .ensures)
+    let d = c .before .before .before .before in
+    let f = d .before .before in
+    let a = f .before .args in
+    rw (← d .before .is-clear .ensures, d .if1 .taken, f .flip .ensures, away-signed (a .inside) _ (a .m), away-signed (a .inside) _ (a .m))
 
 normal-requires : tie.Need-normal-requires
 normal-requires c κs = search needs
@@ -46,4 +41,4 @@ returns-3 c =
     rw (← e .before .is-clear .ensures, e .if1 .left, c .if2 .left, c .before .normal .ensures)
 
 pub signed-spec : {M : Type 1} → statement M
-signed-spec = tie.close (tie.spec flip-requires is-clear-requires flip-requires-2 flip-requires-3 returns normal-requires returns-2 returns-3)
+signed-spec = tie.close (tie.spec flip-requires is-clear-requires returns normal-requires returns-2 returns-3)
