@@ -63,7 +63,5 @@ module _ (v : List Float) (cs : List ℕ) (p : Point) (c l n : ℕ) (ready : Rea
     unfolding anyAt
     answered-of a h = record {
       answer = h ∙ ap (any (λ k. containsOf (edges (outlineAt v cs k)) p)) list-is;
-      corners = listed .corners;
-      links = listed .links;
-      items = listed .items;
+      cleared = listed .cleared;
     }

@@ -4,7 +4,6 @@ use mathlib.Core.Bool.{Bool, cond}
 use mathlib.Core.List.{List}
 use Prim.Native.Nat.{ℕ}
 use lib.Ieee.{Float}
-use Rattle.number.specs.Exact.{zeroᶠ}
 use Rattle.boundary.specs.declared.Point.{Point}
 use Rattle.boundary.specs.Boxes.{spot}
 use Rattle.boundary.specs.Folds.{any}
@@ -12,9 +11,9 @@ use Rattle.boundary.specs.Outline.{edges}
 use Rattle.accept.specs.declared.Answer.{Answer}
 use Rattle.accept.specs.declared.Answer.the-variants.{Told}
 use Rattle.accept.specs.Answers.{answerFor}
-use Rattle.accept.specs.Lists.{atFront, zeros}
 use Rattle.geometry.specs.Polygon.{containsOf}
 use Rattle.splits.specs.Tree.{indexOf}
+use Rattle.index.specs.Answers.{Cleared}
 use Rattle.meeting.specs.Meeting.{meetingOf}
 use Rattle.set.specs.Set.{outlineAt, setBoxes}
 use Rattle.set.specs.Tests.{setQueryTested}
@@ -38,6 +37,4 @@ anyAnswer v cs p C L I = answerFor (queryTested v cs p C L I) (Told (cond (anyAt
 -- the answer of `any_at`, and cleared buffers
 pub record Answered (v : List Float) (cs : List ℕ) (p : Point) (C : List Float) (L I : List ℕ) (r : Bool) (C′ : List Float) (L′ I′ : List ℕ) : Type 0 where
   pub answer : r ≡ anyAt v cs p
-  pub corners : C′ ≡ atFront (zeros zeroᶠ 2044) C
-  pub links : L′ ≡ atFront (zeros 0 1022) L
-  pub items : I′ ≡ atFront (zeros 0 1024) I
+  pub cleared : Cleared C L I C′ L′ I′

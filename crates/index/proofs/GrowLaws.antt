@@ -6,7 +6,7 @@ use Prim.Native.Nat.{ℕ, zero, suc, _+_, _-_, _*_, _%_, _≤_}
 use native.Mathlib.Nat.{sub-zero}
 use native.Mathlib.Omega.{arith}
 use lib.Dec.{leb, eqb, ltb}
-use lib.ListN.{length, take, drop}
+use lib.ListN.{length, take, drop, length-replicate}
 use lib.Seq.{length-take-le, take-at, drop-at, drop-append-add, drop-drop, sets}
 use lib.Ieee.{Float}
 use borrow.Author.Tests.{le-leb, ltb-false, eqb-true}
@@ -16,13 +16,14 @@ use Rattle.sorts.proofs.PartLaws.{sort-sorted}
 use Rattle.boundary.specs.Folds.{run, any}
 use Rattle.accept.specs.declared.Refusal.the-variants.{TooMany, BadBox}
 use Rattle.accept.specs.declared.Test.the-variants.{Passed}
-use Rattle.accept.specs.Lists.{atFront}
+use Rattle.number.specs.Exact.{zeroᶠ}
+use Rattle.accept.specs.Lists.{atFront, zeros}
 use Rattle.accept.proofs.TestLaws.{passes, passes-else, room-passed}
 use Rattle.entries.specs.Entries.{boxCount, boxNumbers, boxesOf, wideAt, centreOf}
 use Rattle.splits.specs.Tree.{Tree, leaf, hullOf, treeIn, indexOf, itemsOf}
 use Rattle.nodes.specs.Layout.{extra, nodeOf, below, nodesOf, cornersOf, linksOf, Grown}
 use Rattle.boundary.specs.Boxes.{boxFits}
-use Rattle.index.specs.Answers.{boxesTested, shortIndex, buildTested, Stored, Accepted}
+use Rattle.index.specs.Answers.{boxesTested, shortIndex, buildTested, Stored, Accepted, Cleared}
 use Rattle.entries.proofs.StoreLaws.{length-run, sets-front, flat-length}
 use Rattle.entries.proofs.EntryLaws.{wide-held, centres-held}
 use Rattle.nodes.proofs.TreeLaws.{tree-leaf, length-items, nodes-suffice}
@@ -158,3 +159,25 @@ accepted-of v c l i e p =
 pub accepted : (v : List Float) (c l i : ℕ) → buildTested v c l i ≡ Passed → Accepted v c l i
 unfolding buildTested
 accepted v c l i e = let p = room-passed (shortIndex c l i) (boxesTested v) e in accepted-of v c l i (p .0) (p .1)
+
+-- what was built is gone once the buffer is cleared
+pub stored-cleared : (v : List Float) (C : List Float) (L I : List ℕ) (k : ℕ) (C′ : List Float) (L′ I′ : List ℕ) (C″ : List Float) (L″ I″ : List ℕ) → Accepted v (length C) (length L) (length I)
+    → Stored (indexOf v) C L I k C′ L′ I′ → Cleared C′ L′ I′ C″ L″ I″ → Cleared C L I C″ L″ I″
+stored-cleared v C L I k C′ L′ I′ C″ L″ I″ A s z =
+    let t = indexOf v in
+    let size = A .size in
+    let n = length-index-items v in
+    let nodes = index-nodes v (omega arith) in
+    let corners = flat-length cornersOf 4 (λ _. refl) (nodesOf t) in
+    let links = flat-length linksOf 2 (λ _. refl) (nodesOf t) in
+    let zC = length-replicate 2044 zeroᶠ in
+    let zL = length-replicate {A = ℕ} 1022 0 in
+    let zi = length-replicate {A = ℕ} 1024 0 in
+    let aC = A .corners in
+    let aL = A .links in
+    let ai = A .items in
+    record {
+      corners = z .corners ∙ rw (s .corners) (front-front (zeros zeroᶠ 2044) (flatMap cornersOf (nodesOf t)) C (omega arith) (omega arith));
+      links = z .links ∙ rw (s .links) (front-front (zeros 0 1022) (flatMap linksOf (nodesOf t)) L (omega arith) (omega arith));
+      items = z .items ∙ rw (s .items) (front-front (zeros 0 1024) (itemsOf t) I (omega arith) (omega arith));
+    }

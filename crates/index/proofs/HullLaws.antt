@@ -1,11 +1,12 @@
--- The box around items' boxes is around each of them, and is in every box that is around all of them; widened boxes of the field have no NaN. Assumes nothing.
+-- The box around items' boxes is around each of them, is in every box that is around all of them, and is finite where they are; widened boxes of the field have no NaN. Assumes nothing.
 use mathlib.Core.Path.{_≡_, refl, subst}
 use mathlib.Core.Bool.{Bool, true, false, cond}
 use mathlib.Core.List.{List, [], _∷_}
 use Prim.Native.Nat.{ℕ, _+_, _<_}
 use native.Mathlib.Omega.{arith}
 use lib.Dec.{T, leb, eqb}
-use lib.Ieee.{Float, binary64, mul, neg, le}
+use lib.ListN.{length}
+use lib.Ieee.{Float, nan, inf, fin, binary64, mul, neg, lt, le}
 use lib.Ieee.Fits.{and-l, and-r}
 use lib.Ieee.Scale.{finite}
 use borrow.Author.Tests.{eq-eqb, eqb-true}
@@ -13,12 +14,14 @@ use Rattle.signs.specs.Signs.{absOf, maxOf}
 use Rattle.number.proofs.OrderLaws.{finite-between, max-one-of}
 use Rattle.number.proofs.Values.{add-not-nan, sub-not-nan, mul-not-nan, abs-finite}
 use Rattle.boundary.specs.declared.Bounds.{Bounds}
-use Rattle.boundary.specs.Boxes.{Around, limit, inField, boxFits, hull, nowhere, nano, scaleOf, widenedOf}
+use Rattle.number.specs.Exact.{Held}
+use Rattle.boundary.specs.Boxes.{FiniteBox, Around, limit, inField, boxFits, hull, nowhere, nano, scaleOf, widenedOf}
 use Rattle.boundary.specs.Folds.{fold}
 use Rattle.boundary.specs.Line.{one}
+use Rattle.boundary.proofs.AlongLaws.{one-of}
 use Rattle.boundary.proofs.AroundLaws.{Number, NumberBox, around-self, around-through, hull-number, hull-around, hull-within, around-nowhere, nowhere-number}
 use Rattle.sorts.specs.Sort.{sort, times, In}
-use Rattle.sorts.proofs.SortLaws.{times-sort}
+use Rattle.sorts.proofs.SortLaws.{length-sort, times-sort}
 use Rattle.splits.specs.Tree.{hullOf}
 
 -- ---- widened boxes
@@ -69,15 +72,15 @@ unfolding times
 in-rest i x xs h = omega arith
 
 module _ (W : ℕ → Bounds) where
-  abbrev step : Bounds → ℕ → Bounds
+  abbrev pub step : Bounds → ℕ → Bounds
   step b i = hull b (W i)
 
-  record Folded (b : Bounds) (is : List ℕ) (h : Bounds) : Type 0 where
-    number : NumberBox h
-    start : Around h b
-    each : (i : ℕ) → In i is → Around h (W i)
+  pub record Folded (b : Bounds) (is : List ℕ) (h : Bounds) : Type 0 where
+    pub number : NumberBox h
+    pub start : Around h b
+    pub each : (i : ℕ) → In i is → Around h (W i)
 
-  folded : (is : List ℕ) (b : Bounds) → NumberBox b → ((i : ℕ) → In i is → NumberBox (W i)) → Folded b is (fold step b is)
+  pub folded : (is : List ℕ) (b : Bounds) → NumberBox b → ((i : ℕ) → In i is → NumberBox (W i)) → Folded b is (fold step b is)
   unfolding fold times
   folded [] b B N = record { number = B; start = around-self b B; each = λ i h. absurd (omega arith) }
   folded (x ∷ xs) b B N =
@@ -101,7 +104,7 @@ module _ (W : ℕ → Bounds) where
     unfolding hullOf
     hull-of-around i h = folded (sort leb is) nowhere nowhere-number (λ i h. N i (rw (times-sort leb i is) at h)) .each i (rw (times-sort leb i is) h)
 
-  fold-within : (n : Bounds) (is : List ℕ) (b : Bounds) → Around n b → ((i : ℕ) → In i is → Around n (W i)) → Around n (fold step b is)
+  pub fold-within : (n : Bounds) (is : List ℕ) (b : Bounds) → Around n b → ((i : ℕ) → In i is → Around n (W i)) → Around n (fold step b is)
   unfolding fold
   fold-within n [] b p q = p
   fold-within n (x ∷ xs) b p q = fold-within n xs (hull b (W x)) (hull-within n b (W x) p (q x (in-first x xs))) (λ i h. q i (in-rest i x xs h))
@@ -110,3 +113,42 @@ module _ (W : ℕ → Bounds) where
   pub hull-of-within : (n : Bounds) → NumberBox n → (is : List ℕ) → ((i : ℕ) → In i is → Around n (W i)) → Around n (hullOf W is)
   unfolding hullOf
   hull-of-within n N is q = fold-within n (sort leb is) nowhere (around-nowhere n N) (λ i h. q i (rw (times-sort leb i is) at h))
+
+-- ---- the box around finite boxes is finite
+above-low : (x : Float) → T (finite x) → lt (inf true) x ≡ true
+unfolding lt
+above-low nan h = absurd h
+above-low (inf s) h = absurd h
+above-low (fin s m e) h = refl
+
+below-high : (x : Float) → T (finite x) → lt x (inf false) ≡ true
+unfolding lt
+below-high nan h = absurd h
+below-high (inf s) h = absurd h
+below-high (fin s m e) h = refl
+
+hull-first : (b : Bounds) → FiniteBox b → hull nowhere b ≡ b
+unfolding hull
+hull-first b B = rw (below-high (b .min .x) (B .min .x .finite), below-high (b .min .y) (B .min .y .finite), above-low (b .max .x) (B .max .x .finite), above-low (b .max .y) (B .max .y .finite))
+
+hull-finite : (a b : Bounds) → FiniteBox a → FiniteBox b → FiniteBox (hull a b)
+unfolding hull
+hull-finite a b A B = record {
+  min = record { x = one-of Held (lt (b .min .x) (a .min .x)) (B .min .x) (A .min .x); y = one-of Held (lt (b .min .y) (a .min .y)) (B .min .y) (A .min .y) };
+  max = record { x = one-of Held (lt (a .max .x) (b .max .x)) (B .max .x) (A .max .x); y = one-of Held (lt (a .max .y) (b .max .y)) (B .max .y) (A .max .y) };
+}
+
+module _ (W : ℕ → Bounds) where
+  fold-finite : (is : List ℕ) (b : Bounds) → FiniteBox b → ((i : ℕ) → In i is → FiniteBox (W i)) → FiniteBox (fold (λ b i. hull b (W i)) b is)
+  unfolding fold
+  fold-finite [] b B F = B
+  fold-finite (x ∷ xs) b B F = fold-finite xs (hull b (W x)) (hull-finite b (W x) B (F x (in-first x xs))) (λ i h. F i (in-rest i x xs h))
+
+  pub list-finite : (is : List ℕ) → 0 < length is → ((i : ℕ) → In i is → FiniteBox (W i)) → FiniteBox (fold (λ b i. hull b (W i)) nowhere is)
+  unfolding fold
+  list-finite [] l F = absurd (omega arith)
+  list-finite (x ∷ xs) l F = let X = F x (in-first x xs) in rw (hull-first (W x) X) (fold-finite xs (W x) X (λ i h. F i (in-rest i x xs h)))
+
+  pub hull-of-finite : (is : List ℕ) → 0 < length is → ((i : ℕ) → In i is → FiniteBox (W i)) → FiniteBox (hullOf W is)
+  unfolding hullOf
+  hull-of-finite is l F = list-finite (sort leb is) (rw (length-sort leb is) l) (λ i h. F i (rw (times-sort leb i is) at h))

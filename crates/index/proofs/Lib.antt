@@ -8,5 +8,7 @@ pub mod HullLaws
 pub mod Theorems
 -- What the build leaves holds the tree.
 pub mod ReadLaws
+-- The order of a node's entries does not show in its box, nor in the axis.
+pub mod AnyOrder
 -- The Rust's build gives the index.
 pub mod RustLaws

@@ -58,6 +58,14 @@ module _ (i : ℕ) where
       go true e f = let z : j ≡ i = eqb-true j i e in let n = times-below (suc j) k (omega arith) in omega arith
       go false e f = let n = f (lt-of j i h (eqb-false j i e)) (omega arith) in omega arith
 
+-- the numbers up to k are below it
+pub numbers-below : (k i : ℕ) → In i (run (λ n. n) 0 k) → i < k
+numbers-below k i h = go (ltb i k) refl
+  where
+    go : (b : Bool) → ltb i k ≡ b → i < k
+    go true e = ltb-true i k e
+    go false e = let l = ltb-false i k e in let z = times-past i 0 k (omega arith) in absurd (omega arith)
+
 module _ (v : List Float) where
   -- ITEMS: every number of a box occurs once in the items, and no other number does
   pub items-once : (i : ℕ) → (i < boxCount v → times i (itemsOf (indexOf v)) ≡ 1) × (boxCount v ≤ i → times i (itemsOf (indexOf v)) ≡ 0)
@@ -102,12 +110,8 @@ module _ (v : List Float) (passed : boxesTested v ≡ Passed) where
   passed-number i h = fits-wide (boxAt v i) (passed-fits i h)
 
   -- an item of the index is the number of a box
-  listed-number : (i : ℕ) → In i (run (λ n. n) 0 (boxCount v)) → NumberBox (wideAt v i)
-  listed-number i h = go (ltb i (boxCount v)) refl
-    where
-      go : (b : Bool) → ltb i (boxCount v) ≡ b → NumberBox (wideAt v i)
-      go true e = passed-number i (ltb-true i (boxCount v) e)
-      go false e = let l = ltb-false i (boxCount v) e in let z = times-past i 0 (boxCount v) (omega arith) in absurd (omega arith)
+  pub listed-number : (i : ℕ) → In i (run (λ n. n) 0 (boxCount v)) → NumberBox (wideAt v i)
+  listed-number i h = passed-number i (numbers-below (boxCount v) i h)
 
 -- a node's box is around the boxes of all items below it
 module _ (W : ℕ → Bounds) (C : ℕ → Point) where

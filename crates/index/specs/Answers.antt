@@ -6,12 +6,13 @@ use Prim.Native.Nat.{ℕ, _%_, _≤_}
 use lib.Dec.{eqb, ltb}
 use lib.ListN.{length}
 use lib.Ieee.{Float}
+use Rattle.number.specs.Exact.{zeroᶠ}
 use Rattle.boundary.specs.Boxes.{boxFits}
 use Rattle.boundary.specs.Folds.{any}
 use Rattle.accept.specs.declared.Refusal.the-variants.{TooMany, BadBox}
 use Rattle.accept.specs.declared.Test.{Test}
 use Rattle.accept.specs.declared.Test.the-variants.{Passed, Failed}
-use Rattle.accept.specs.Lists.{atFront, writtenFor}
+use Rattle.accept.specs.Lists.{atFront, zeros, writtenFor}
 use Rattle.accept.specs.Refusals.{number, roomTested}
 use Rattle.index.specs.declared.Built.{Built}
 use Rattle.index.specs.declared.Built.the-variants.{Refused, Sized}
@@ -86,3 +87,9 @@ pub record Accepted (v : List Float) (c l n : ℕ) : Type 0 where
   pub corners : 2044 ≤ c
   pub links : 1022 ≤ l
   pub items : 1024 ≤ n
+
+-- an index buffer that was used for work: zeros in its 511 nodes and 1,024 items, the rest unchanged
+pub record Cleared (C : List Float) (L I : List ℕ) (C′ : List Float) (L′ I′ : List ℕ) : Type 0 where
+  pub corners : C′ ≡ atFront (zeros zeroᶠ 2044) C
+  pub links : L′ ≡ atFront (zeros 0 1022) L
+  pub items : I′ ≡ atFront (zeros 0 1024) I

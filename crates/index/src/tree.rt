@@ -5,7 +5,8 @@ ghost use lib.ListN.{length};
 ghost use Rattle.boundary.specs.Folds.{run};
 ghost use Rattle.entries.specs.Entries.{boxCount, wideAt};
 ghost use Rattle.splits.specs.Tree.{hullOf, indexOf};
-ghost use Rattle.index.specs.Answers.{Stored, Accepted};
+ghost use Rattle.index.specs.Answers.{Stored, Accepted, Cleared};
+use accept::lists;
 use boundary::Bounds;
 use boundary::boxes;
 
@@ -173,4 +174,14 @@ pub fn grow_or_leaf(
         return grow_leaf(boxes, corners, links, items);
     }
     grow(boxes, corners, links, items)
+}
+
+// Zeros in the nodes and items of an index buffer that was used for work.
+pub fn clear(corners: &mut [f64], links: &mut [u32], items: &mut [u32])
+    requires { ⌜ (2044 ≤ length (now corners)) × (1022 ≤ length (now links)) × (1024 ≤ length (now items)) ⌝ }
+    ensures { λ _. ⌜ Cleared (now (corners .entry)) (now (links .entry)) (now (items .entry)) (now (corners .exit)) (now (links .exit)) (now (items .exit)) ⌝ }
+{
+    lists::clear_numbers(corners, 2044);
+    lists::clear_counts(links, 1022);
+    lists::clear_counts(items, 1024);
 }

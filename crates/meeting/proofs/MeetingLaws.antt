@@ -5,24 +5,23 @@ use mathlib.Core.List.{List, [], _∷_, _++_, flatMap}
 use Prim.Native.Nat.{ℕ, zero, suc, _+_, _-_, _≤_, _<_}
 use native.Mathlib.Omega.{arith}
 use lib.Dec.{T, eqb, ltb}
-use lib.ListN.{length, length-append, length-replicate}
+use lib.ListN.{length, length-append}
 use lib.Ieee.{Float, lt, le}
 use borrow.Author.Tests.{eqb-true, eqb-false, ltb-false}
-use Rattle.number.specs.Exact.{zeroᶠ}
 use lib.Ieee.Bits.{is-true}
 use Rattle.number.proofs.OrderLaws.{below-through, through-below}
 use Rattle.boundary.specs.declared.Bounds.{Bounds}
 use Rattle.boundary.specs.Boxes.{Around}
-use Rattle.accept.specs.Lists.{atFront, zeros}
+use Rattle.accept.specs.Lists.{atFront}
 use Rattle.accept.specs.declared.Test.the-variants.{Passed}
 use Rattle.accept.specs.Refusals.{cellTested}
 use Rattle.accept.proofs.TestLaws.{room-passed, cell-passed}
 use Rattle.entries.specs.Entries.{boxAt}
 use Rattle.splits.specs.Tree.{Tree, leaf, inner, indexOf, itemsOf}
 use Rattle.nodes.specs.Layout.{extra, nodeOf, nodesOf, cornersOf, linksOf}
-use Rattle.index.specs.Answers.{boxesTested, shortIndex, Stored, Accepted}
-use Rattle.entries.proofs.StoreLaws.{sets-front, flat-length}
-use Rattle.index.proofs.GrowLaws.{front-front, length-index-items, index-nodes, or-none, accepted-of}
+use Rattle.index.specs.Answers.{boxesTested, shortIndex, Stored, Accepted, Cleared}
+use Rattle.entries.proofs.StoreLaws.{sets-front}
+use Rattle.index.proofs.GrowLaws.{length-index-items, or-none, accepted-of, stored-cleared}
 use Rattle.index.proofs.ReadLaws.{Holds, holds-first, holds-second, stored-holds, Deep}
 use Rattle.index.proofs.Theorems.{rootBox, Nested, nested, index-deep}
 use Rattle.meeting.specs.Meeting.{apart, meetingOf, visitedOf}
@@ -162,32 +161,17 @@ module _ (v : List Float) (c : Bounds) (passed : boxesTested v ≡ Passed) (C : 
           hits-is c B K I (indexOf v) 9 0 0 1 (stored-holds (indexOf v) C L is) (index-deep v passed (eqb-false (length v) 0 e)) ∙ visited-is c (indexOf v) (nested v passed)
 
   pub listed-of : (C₁ C₂ : List Float) (L₁ L₂ is₁ is₂ S S′ : List ℕ) (k r : ℕ) → Accepted v (length C) (length L) (length is) → 1024 ≤ length S → Stored (indexOf v) C L is k C₁ L₁ is₁
-      → Put S 0 (found (length v) C₁ L₁ is₁ c) S′ r → C₂ ≡ atFront (zeros zeroᶠ 2044) C₁ → L₂ ≡ atFront (zeros 0 1022) L₁ → is₂ ≡ atFront (zeros 0 1024) is₁ → Listed v c C L is S r C₂ L₂ is₂ S′
+      → Put S 0 (found (length v) C₁ L₁ is₁ c) S′ r → Cleared C₁ L₁ is₁ C₂ L₂ is₂ → Listed v c C L is S r C₂ L₂ is₂ S′
   unfolding atFront
-  listed-of C₁ C₂ L₁ L₂ is₁ is₂ S S′ k r A room s p eC eL ei =
+  listed-of C₁ C₂ L₁ L₂ is₁ is₂ S S′ k r A room s p z =
       let t = indexOf v in
       let same : found (length v) C₁ L₁ is₁ c ≡ meetingOf c t = rw (s .corners, s .links, s .items) found-is in
       let size = A .size in
       let n = length-index-items v in
       let m = length-meeting c t in
-      let nodes = index-nodes v (omega arith) in
-      let corners = flat-length cornersOf 4 (λ _. refl) (nodesOf t) in
-      let links = flat-length linksOf 2 (λ _. refl) (nodesOf t) in
       let q : Put S 0 (meetingOf c t) S′ r = rw same at p in
       let place = q .place in
-      let zC = length-replicate 2044 zeroᶠ in
-      let zL = length-replicate {A = ℕ} 1022 0 in
-      let zi = length-replicate {A = ℕ} 1024 0 in
-      let aC = A .corners in
-      let aL = A .links in
-      let ai = A .items in
-      record {
-        count = omega arith;
-        list = q .list ∙ sets-front S (meetingOf c t) (omega arith);
-        corners = eC ∙ rw (s .corners) (front-front (zeros zeroᶠ 2044) (flatMap cornersOf (nodesOf t)) C (omega arith) (omega arith));
-        links = eL ∙ rw (s .links) (front-front (zeros 0 1022) (flatMap linksOf (nodesOf t)) L (omega arith) (omega arith));
-        items = ei ∙ rw (s .items) (front-front (zeros 0 1024) (itemsOf t) is (omega arith) (omega arith));
-      }
+      record { count = omega arith; list = q .list ∙ sets-front S (meetingOf c t) (omega arith); cleared = stored-cleared v C L is k C₁ L₁ is₁ C₂ L₂ is₂ A s z }
 
 -- what a call that passes the tests has
 pub meeting-accepted : (v : List Float) (c : Bounds) (corners links items list : ℕ) → meetingTested v c corners links items list ≡ Passed → Accepted v corners links items × (boxesTested v ≡ Passed) × (1024 ≤ list)

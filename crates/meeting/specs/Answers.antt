@@ -15,7 +15,7 @@ use Rattle.accept.specs.Refusals.{cellTested, roomTested}
 use Rattle.accept.specs.Answers.{answerFor}
 use Rattle.accept.specs.Lists.{atFront, zeros, writtenFor}
 use Rattle.splits.specs.Tree.{indexOf}
-use Rattle.index.specs.Answers.{boxesTested, shortIndex}
+use Rattle.index.specs.Answers.{boxesTested, shortIndex, Cleared}
 use Rattle.meeting.specs.Meeting.{meetingOf}
 
 -- tests 4, 11 and 13; the list has 1,024 places
@@ -49,10 +49,8 @@ unfoldable pub meetingList : List Float → Bounds → List Float → List ℕ �
 unfolding writtenFor meetingTested meetingOf
 meetingList v c C L I S = writtenFor (meetingOf c (indexOf v)) S (lentTested v c C L I S)
 
--- what accepting a call leaves: the items at the front of the list, and zeros in the working buffers' 511 nodes and 1,024 items
+-- what accepting a call leaves: the items at the front of the list, and a working buffer that is cleared
 pub record Listed (v : List Float) (c : Bounds) (C : List Float) (L is S : List ℕ) (r : ℕ) (C′ : List Float) (L′ is′ S′ : List ℕ) : Type 0 where
   pub count : r ≡ length (meetingOf c (indexOf v))
   pub list : S′ ≡ atFront (meetingOf c (indexOf v)) S
-  pub corners : C′ ≡ atFront (zeros zeroᶠ 2044) C
-  pub links : L′ ≡ atFront (zeros 0 1022) L
-  pub items : is′ ≡ atFront (zeros 0 1024) is
+  pub cleared : Cleared C L is C′ L′ is′

@@ -12,7 +12,6 @@ ghost use Rattle.meeting.specs.Walk.{hits, found, Put};
 ghost use Rattle.meeting.specs.Answers.{meetingTested, meetingAnswer, meetingCorners, meetingLinks, meetingItems, meetingList, Listed};
 use accept::Answer;
 use accept::Test;
-use accept::lists;
 use accept::refusals;
 use boundary::Bounds;
 use index::refusals::boxes_tested;
@@ -113,9 +112,7 @@ pub fn listed(
 {
     index::tree::grow_or_leaf(boxes, corners, links, items);
     let count = walk(boxes.len(), corners, links, items, c, list);
-    lists::clear_numbers(corners, 2044);
-    lists::clear_counts(links, 1022);
-    lists::clear_counts(items, 1024);
+    index::tree::clear(corners, links, items);
     count
 }
 

@@ -1,13 +1,10 @@
 -- What the nearest query answers and leaves. Its tests, and what its working buffers hold then, are those of every query over a set. Definitions only.
-use mathlib.Core.Path.{_≡_}
 use mathlib.Core.List.{List}
 use Prim.Native.Nat.{ℕ}
 use lib.Ieee.{Float}
-use Rattle.number.specs.Exact.{zeroᶠ}
 use Rattle.boundary.specs.declared.Point.{Point}
 use Rattle.accept.specs.declared.Test.{Test}
 use Rattle.accept.specs.declared.Test.the-variants.{Passed, Failed}
-use Rattle.accept.specs.Lists.{atFront, zeros}
 use Rattle.set.specs.Tests.{setQueryTested}
 use Rattle.set.specs.Answers.{queryTested}
 use Rattle.nearest.specs.declared.Nearest.{Nearest}
@@ -22,9 +19,3 @@ nearestFor a (Failed r) = Refused r
 unfoldable pub nearestAnswer : List Float → List ℕ → Point → List Float → List ℕ → List ℕ → Nearest
 unfolding setQueryTested nearestFor nearestIn
 nearestAnswer v cs p C L I = nearestFor (nearestIn v cs p) (queryTested v cs p C L I)
-
--- zeros in the 511 nodes and 1,024 items of working buffers, the rest unchanged
-pub record Cleared (C : List Float) (L I : List ℕ) (C′ : List Float) (L′ I′ : List ℕ) : Type 0 where
-  pub corners : C′ ≡ atFront (zeros zeroᶠ 2044) C
-  pub links : L′ ≡ atFront (zeros 0 1022) L
-  pub items : I′ ≡ atFront (zeros 0 1024) I

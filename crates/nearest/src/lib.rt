@@ -6,13 +6,13 @@ ghost use mathlib.Core.Bool.{true};
 ghost use Prim.Native.Nat.{_*_, _≤_, _<_};
 ghost use lib.ListN.{length};
 ghost use Rattle.boundary.specs.Boxes.{pointInField};
+ghost use Rattle.index.specs.Answers.{Cleared};
 ghost use Rattle.set.specs.Answers.{Ready, clearedCorners, clearedLinks, clearedItems};
 ghost use Rattle.search.specs.Least.{magnitudeAt, leastOf};
 ghost use Rattle.nearest.specs.Nearest.{nearestIn};
-ghost use Rattle.nearest.specs.Answers.{nearestAnswer, Cleared};
+ghost use Rattle.nearest.specs.Answers.{nearestAnswer};
 use accept::Refusal;
 use accept::Test;
-use accept::lists;
 use boundary::Point;
 use search::Best;
 use set::outlines;
@@ -31,16 +31,6 @@ pub enum Nearest {
     Refused(Refusal),
     None,
     At(Best),
-}
-
-// Zeros in the nodes and items of the working buffers.
-fn clear(corners: &mut [f64], links: &mut [u32], items: &mut [u32])
-    requires { ⌜ (2044 ≤ length (now corners)) × (1022 ≤ length (now links)) × (1024 ≤ length (now items)) ⌝ }
-    ensures { λ _. ⌜ Cleared (now (corners .entry)) (now (links .entry)) (now (items .entry)) (now (corners .exit)) (now (links .exit)) (now (items .exit)) ⌝ }
-{
-    lists::clear_numbers(corners, 2044);
-    lists::clear_counts(links, 1022);
-    lists::clear_counts(items, 1024);
 }
 
 // The nearest of the set's outlines; the index is built in the lent buffers, and cleared. The first two
@@ -67,7 +57,7 @@ fn found_in(
     let b = &boxes[..];
     index::tree::grow(&b[0..n], corners, links, items);
     let best = search::search(v, counts, starts, p, corners, links, items);
-    clear(corners, links, items);
+    index::tree::clear(corners, links, items);
     best
 }
 
@@ -142,7 +132,7 @@ fn answered(
         × Cleared (now (corners .entry)) (now (links .entry)) (now (items .entry)) (now (corners .exit)) (now (links .exit)) (now (items .exit)) ⌝ }
 {
     if counts.len() == 0 {
-        clear(corners, links, items);
+        index::tree::clear(corners, links, items);
         return Nearest::None;
     }
     Nearest::At(found(v, counts, p, corners, links, items))

@@ -1,29 +1,26 @@
 -- The gap of every node of a set's index is at most the magnitude of each outline below it. Assumes nothing.
 use mathlib.Core.Path.{_≡_, refl, sym, ap, subst}
 use mathlib.Core.Bool.{Bool, true, false, not}
-use mathlib.Core.List.{List, [], _∷_, _++_}
+use mathlib.Core.List.{List, _++_}
 use Prim.Native.Nat.{ℕ, _≤_, _<_}
 use native.Mathlib.Omega.{arith}
 use borrow.Author.Tests.{ltb-true, ltb-false, not-false}
-use lib.Dec.{T, leb, ltb}
+use lib.Dec.{T, ltb}
 use lib.ListN.{length, getD, List·getD-eq-default}
-use lib.Ieee.{Float, nan, inf, fin, lt, le, isNan, fits}
-use lib.Ieee.Scale.{finite}
-use Rattle.number.specs.Exact.{Held}
+use lib.Ieee.{Float, nan, inf, le, isNan, fits}
 use Rattle.number.proofs.OrderLaws.{below-le, left-not-nan}
 use Rattle.boundary.specs.declared.Point.{Point}
 use Rattle.boundary.specs.declared.Bounds.{Bounds}
-use Rattle.boundary.specs.Boxes.{inField, FieldValue, FieldPoint, FieldBox, FiniteBox, Around, hull, nowhere, widenedOf, gapOf}
-use Rattle.boundary.specs.Folds.{run, fold}
-use Rattle.boundary.proofs.AlongLaws.{one-of}
+use Rattle.boundary.specs.Boxes.{inField, FieldValue, FieldPoint, FieldBox, FiniteBox, Around, widenedOf, gapOf}
+use Rattle.boundary.specs.Folds.{run}
 use Rattle.boundary.proofs.FoldLaws.{any-at}
 use Rattle.boundary.proofs.BoxLaws.{widened-box-finite}
-use Rattle.sorts.specs.Sort.{sort, In}
-use Rattle.sorts.proofs.SortLaws.{length-sort, times-append, times-sort}
+use Rattle.sorts.specs.Sort.{In}
+use Rattle.sorts.proofs.SortLaws.{times-append}
 use Rattle.entries.specs.Entries.{boxCount, wideAt, centreOf}
 use Rattle.splits.specs.Tree.{Tree, leaf, inner, hullOf, treeOf, indexOf, itemsOf, EachNode}
 use Rattle.boundary.proofs.AroundLaws.{Number}
-use Rattle.index.proofs.HullLaws.{in-first, in-rest}
+use Rattle.index.proofs.HullLaws.{hull-of-finite}
 use Rattle.entries.proofs.StoreLaws.{length-run}
 use Rattle.nodes.proofs.TreeLaws.{left, right, length-left, length-right, times-halves, tree-induct}
 use Rattle.index.proofs.Theorems.{items-times, items-once, node-boxes}
@@ -33,48 +30,11 @@ use Rattle.search.specs.Least.{magnitudeAt}
 use Rattle.search.specs.Walk.{Doubles}
 use Rattle.search.proofs.MagnitudeLaws.{Length, magnitude-length, magnitude-none, gap-magnitude}
 
--- ---- the box around finite boxes is finite
-above-low : (x : Float) → T (finite x) → lt (inf true) x ≡ true
-unfolding lt
-above-low nan h = absurd h
-above-low (inf s) h = absurd h
-above-low (fin s m e) h = refl
-
-below-high : (x : Float) → T (finite x) → lt x (inf false) ≡ true
-unfolding lt
-below-high nan h = absurd h
-below-high (inf s) h = absurd h
-below-high (fin s m e) h = refl
-
-hull-first : (b : Bounds) → FiniteBox b → hull nowhere b ≡ b
-unfolding hull
-hull-first b B = rw (below-high (b .min .x) (B .min .x .finite), below-high (b .min .y) (B .min .y .finite), above-low (b .max .x) (B .max .x .finite), above-low (b .max .y) (B .max .y .finite))
-
-hull-finite : (a b : Bounds) → FiniteBox a → FiniteBox b → FiniteBox (hull a b)
-unfolding hull
-hull-finite a b A B = record {
-  min = record { x = one-of Held (lt (b .min .x) (a .min .x)) (B .min .x) (A .min .x); y = one-of Held (lt (b .min .y) (a .min .y)) (B .min .y) (A .min .y) };
-  max = record { x = one-of Held (lt (a .max .x) (b .max .x)) (B .max .x) (A .max .x); y = one-of Held (lt (a .max .y) (b .max .y)) (B .max .y) (A .max .y) };
-}
-
+-- ---- the boxes of every node over finite boxes are finite
 module _ (W : ℕ → Bounds) where
-  fold-finite : (is : List ℕ) (b : Bounds) → FiniteBox b → ((i : ℕ) → In i is → FiniteBox (W i)) → FiniteBox (fold (λ b i. hull b (W i)) b is)
-  unfolding fold
-  fold-finite [] b B F = B
-  fold-finite (x ∷ xs) b B F = fold-finite xs (hull b (W x)) (hull-finite b (W x) B (F x (in-first x xs))) (λ i h. F i (in-rest i x xs h))
-
-  list-finite : (is : List ℕ) → 0 < length is → ((i : ℕ) → In i is → FiniteBox (W i)) → FiniteBox (fold (λ b i. hull b (W i)) nowhere is)
-  unfolding fold
-  list-finite [] l F = absurd (omega arith)
-  list-finite (x ∷ xs) l F = let X = F x (in-first x xs) in rw (hull-first (W x) X) (fold-finite xs (W x) X (λ i h. F i (in-rest i x xs h)))
-
-  hull-of-finite : (is : List ℕ) → 0 < length is → ((i : ℕ) → In i is → FiniteBox (W i)) → FiniteBox (hullOf W is)
-  unfolding hullOf
-  hull-of-finite is l F = list-finite (sort leb is) (rw (length-sort leb is) l) (λ i h. F i (rw (times-sort leb i is) at h))
-
   tree-finite : (C : ℕ → Point) (is : List ℕ) → 0 < length is → ((i : ℕ) → In i is → FiniteBox (W i)) → EachNode (λ b _. FiniteBox b) (treeOf W C is)
   unfolding EachNode
-  tree-finite C is l F = tree-induct W C (λ is t. 0 < length is → ((i : ℕ) → In i is → FiniteBox (W i)) → EachNode (λ b _. FiniteBox b) t) (λ is _ l F. hull-of-finite is l F) step (length is) is (omega arith) l F
+  tree-finite C is l F = tree-induct W C (λ is t. 0 < length is → ((i : ℕ) → In i is → FiniteBox (W i)) → EachNode (λ b _. FiniteBox b) t) (λ is _ l F. hull-of-finite W is l F) step (length is) is (omega arith) l F
     where
       step : (is : List ℕ) (l r : Tree) → 4 < length is
           → (0 < length (left C is) → ((i : ℕ) → In i (left C is) → FiniteBox (W i)) → EachNode (λ b _. FiniteBox b) l)
@@ -83,7 +43,7 @@ module _ (W : ℕ → Bounds) where
       step is l r h p q s F =
           let a = length-left C is in
           let b = length-right C is in
-          (hull-of-finite is s F, p (omega arith) (λ i k. F i (let z = times-halves C is i in omega arith)), q (omega arith) (λ i k. F i (let z = times-halves C is i in omega arith)))
+          (hull-of-finite W is s F, p (omega arith) (λ i k. F i (let z = times-halves C is i in omega arith)), q (omega arith) (λ i k. F i (let z = times-halves C is i in omega arith)))
 
 -- ---- what holds of every node
 each-three : (P Q R S : Bounds → List ℕ → Type 0) → ((b : Bounds) (is : List ℕ) → P b is → Q b is → R b is → S b is) → (t : Tree) → EachNode P t → EachNode Q t → EachNode R t → EachNode S t

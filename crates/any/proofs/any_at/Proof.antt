@@ -35,7 +35,7 @@ unfolding anyAnswer answerFor clearedCorners clearedLinks clearedItems writtenFo
 returns c =
     let e = sym (c .before .before .before .before .before .before .before .before .before .before .before .before .before .query-tested .ensures) ∙ c .before .before .before .before .before .before .before .before .before .before .before .enum-told .given .1 in
     let a = c .before .before .before .before .before .before .before .any-of .ensures in
-    (rw (e, ← a .answer, c .if1 .taken), rw e (a .corners), rw e (a .links), rw e (a .items))
+    (rw (e, ← a .answer, c .if1 .taken), rw e (a .cleared .corners), rw e (a .cleared .links), rw e (a .cleared .items))
 
 same-length-4 : tie.Need-same-length-4
 same-length-4 c = search needs
@@ -51,7 +51,7 @@ unfolding anyAnswer answerFor clearedCorners clearedLinks clearedItems writtenFo
 returns-2 c =
     let e = sym (c .before .before .before .before .before .before .before .before .before .before .before .before .before .query-tested .ensures) ∙ c .before .before .before .before .before .before .before .before .before .before .before .enum-told .given .1 in
     let a = c .before .before .before .before .before .before .before .any-of .ensures in
-    (rw (e, ← a .answer, c .if1 .left), rw e (a .corners), rw e (a .links), rw e (a .items))
+    (rw (e, ← a .answer, c .if1 .left), rw e (a .cleared .corners), rw e (a .cleared .links), rw e (a .cleared .items))
 
 returns-3 : tie.Need-returns-3
 unfolding anyAnswer answerFor clearedCorners clearedLinks clearedItems writtenFor

@@ -10,14 +10,8 @@ grow-or-leaf-requires c κs = search needs
 walk-requires : tie.Need-walk-requires
 walk-requires c κs = search needs
 
-clear-numbers-requires : tie.Need-clear-numbers-requires
-clear-numbers-requires c κs = search needs
-
-clear-counts-requires : tie.Need-clear-counts-requires
-clear-counts-requires c κs = search needs
-
-clear-counts-requires-2 : tie.Need-clear-counts-requires-2
-clear-counts-requires-2 c κs = search needs
+clear-requires : tie.Need-clear-requires
+clear-requires c κs = search needs
 
 same-length : tie.Need-same-length
 same-length c = search needs
@@ -33,10 +27,13 @@ same-length-4 c = search needs
 
 returns : tie.Need-returns
 returns c =
-    let a = c .before .before .before .before .before .before .before .before .before .before .before .before .before .before .before .before .before .before .before .before .before .before .before .before .before .before .before .before .before .before .before .before .before .before .args in
-    let P = c .before .before .before .before .before .before .before .before .before .before .before .before .before .before .before .before .before .before .before .before .before .before .before .before .before .before .before .before .before .before .before .before .before .before .pre in
-    listed-of (a .boxes .now) (a .c) (P .1) (a .corners .now) (a .links .now) (a .items .now) (c .before .before .before .before .before .before .before .before .before .before .before .before .before .before .before .before .before .before .before .before .before .before .before .before .before .grow-or-leaf .last .1 .0) _ (c .before .before .before .before .before .before .before .before .before .before .before .before .before .before .before .before .before .before .before .before .before .before .before .before .before .grow-or-leaf .last .1 .1 .0) _ (c .before .before .before .before .before .before .before .before .before .before .before .before .before .before .before .before .before .before .before .before .before .before .before .before .before .grow-or-leaf .last .1 .1 .1 .0) _ (a .list .now) _ (c .before .before .before .before .before .before .before .before .before .before .before .before .before .before .before .before .before .before .before .before .before .before .before .before .before .grow-or-leaf .result) _
-    (P .0) (P .2) (c .before .before .before .before .before .before .before .before .before .before .before .before .before .before .before .before .before .before .before .before .before .before .before .before .before .grow-or-leaf .ensures) (c .before .before .before .before .before .before .before .before .before .before .before .before .before .before .walk .ensures) (c .before .before .before .before .before .before .before .before .before .before .clear-numbers .ensures) (c .before .before .before .before .before .before .clear-counts .ensures) (c .before .before .clear-counts2 .ensures)
+    let z = c .before .before .before .before .before .before in
+    let w = z .before .before .before .before .before .before in
+    let g = w .before .before .before .before .before .before .before .before .before .before .before in
+    let s = g .before .before .before .before .before .before .before .before .before in
+    let a = s .args in
+    listed-of (a .boxes .now) (a .c) (s .pre .1) (a .corners .now) (a .links .now) (a .items .now) (g .grow-or-leaf .last .1 .0) _ (g .grow-or-leaf .last .1 .1 .0) _ (g .grow-or-leaf .last .1 .1 .1 .0) _ (a .list .now) _ (g .grow-or-leaf .result) _
+    (s .pre .0) (s .pre .2) (g .grow-or-leaf .ensures) (w .walk .ensures) (z .clear .ensures)
 
 pub listed-spec : {M : Type 1} → statement M
 listed-spec =
@@ -44,9 +41,7 @@ listed-spec =
     (tie.spec
     grow-or-leaf-requires
     walk-requires
-    clear-numbers-requires
-    clear-counts-requires
-    clear-counts-requires-2
+    clear-requires
     same-length
     same-length-2
     same-length-3

@@ -48,7 +48,7 @@ unfolding meetingAnswer answerFor meetingCorners meetingLinks meetingItems meeti
 returns c =
     let e = sym (c .before .before .before .before .before .before .before .before .before .before .before .before .before .before .before .tested .ensures) ∙ c .before .before .before .before .before .before .before .before .before .before .before .before .before .enum-told .given .1 in
     let l = c .before .before .before .before .before .before .before .before .listed .ensures in
-    (rw (e, l .count), rw e (l .corners), rw e (l .links), rw e (l .items), rw e (l .list))
+    (rw (e, l .count), rw e (l .cleared .corners), rw e (l .cleared .links), rw e (l .cleared .items), rw e (l .list))
 
 returns-2 : tie.Need-returns-2
 unfolding meetingAnswer answerFor meetingCorners meetingLinks meetingItems meetingList writtenFor
