@@ -7,7 +7,7 @@ use native.Mathlib.Nat.{le-trans, mul-le-mul, le-refl}
 use native.Mathlib.Omega.{arith}
 use borrow.Author.Tests.{ltb-true, ltb-false}
 use lib.Dec.{T, leb, ltb, lit≤}
-use lib.Ieee.{Float, nan, binary64, add, mul, sub, fits}
+use lib.Ieee.{Float, nan, binary64, add, sub, fits}
 use lib.Ieee.Fits.{and-l, and-r, mul-fits}
 use lib.ListN.{length, take, drop, getD, take-append-drop, length-drop}
 use lib.Seq.{length-take-le}

@@ -15,7 +15,7 @@ use Rattle.boundary.specs.Folds.{run}
 use Rattle.boundary.proofs.RunLaws.{run-last}
 use Rattle.entries.specs.Entries.{boxAt}
 use Rattle.nodes.specs.Layout.{itemAt, firstAt, countAt}
-use Rattle.entries.proofs.StoreLaws.{length-run, sets-append, sets-front, sets-more}
+use Rattle.entries.proofs.StoreLaws.{sets-append}
 use Rattle.meeting.specs.Meeting.{apart}
 use Rattle.meeting.specs.Walk.{hits, Put}
 

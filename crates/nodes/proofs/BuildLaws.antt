@@ -1,6 +1,5 @@
 -- What one call of the build leaves, from what its parts leave. Assumes nothing.
 use mathlib.Core.Path.{_≡_, refl, ap, _∙_}
-use mathlib.Core.Bool.{Bool}
 use mathlib.Core.List.{List, [], _∷_, _++_, flatMap}
 use Prim.Native.Nat.{ℕ, _+_, _-_, _*_, _/_, _≤_, _<_}
 use native.Mathlib.Omega.{arith}
@@ -17,7 +16,7 @@ use Rattle.sorts.proofs.Lists.{rest-of, whole-of}
 use Rattle.sorts.proofs.SortLaws.{length-sort}
 use Rattle.sorts.proofs.PartLaws.{ascending}
 use Rattle.entries.specs.Entries.{boxNumbers}
-use Rattle.splits.specs.Tree.{inner, hullOf, spreadOf, alongY, along, ordered, arranged, treeOf, itemsOf}
+use Rattle.splits.specs.Tree.{inner, hullOf, alongY, along, ordered, arranged, treeOf, itemsOf}
 use Rattle.nodes.specs.Layout.{extra, nodeOf, below, cornersOf, linksOf, placed, Settled, Grown}
 use Rattle.nodes.proofs.TreeLaws.{left, right, length-left, length-right, tree-leaf, tree-split, tree-sorted, length-items}
 use Rattle.nodes.proofs.LayoutLaws.{placed-parts}

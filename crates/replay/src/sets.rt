@@ -1,6 +1,5 @@
 // Queries over a set: the calls vk_set_any_at and vk_set_nearest, in buffers of their stated sizes. The
 // vertices come as a list of floats, the counts as a list of numbers, then the point.
-ghost use Rattle.sample.specs.Counts.{Counts};
 use crate::outlines;
 use crate::outlines::Pair;
 use sample::answers;

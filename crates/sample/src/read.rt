@@ -1,5 +1,5 @@
 // Tokens from standard input, which comes in parts of any length.
-ghost use Prim.Native.Nat.{_<_, _≤_};
+ghost use Prim.Native.Nat.{_<_};
 ghost use Rattle.sample.specs.Counts.{Counts};
 
 // Where the reader stands in the buffer: the bytes from at up to end are still to be read.
