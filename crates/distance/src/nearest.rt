@@ -227,8 +227,8 @@ fn signed(e: Edge, q: Point, m: f64, p: Point, inside: bool) -> Distance
     Distance { d: 0.0, v }
 }
 
-// The signed distance of p from the outline's edges, and the normal there, from the edge f that has the nearest
-// point. What is worked out between the search for f and this call costs little: the root waits for the search.
+// The signed distance of p from the outline's edges, and the normal there, where f is the edge that has the
+// nearest point.
 pub fn distance(v: &[f64], f: Found, p: Point, inside: bool) -> Distance
     requires { ⌜ (any (λ x. not (inField x)) (now v) ≡ false) × (pointInField p ≡ true) × NearestEdge (now v) p f ⌝ }
     ensures { λ r. ⌜ r ≡ signedOf (nearestOf (edges (now (v .entry))) p) p inside ⌝ }

@@ -160,8 +160,8 @@ pub fn locate(v: &[f64], p: Point) -> Answer
     }
 }
 
-// The signed distance of p, negative where the outline contains it, and the normal. Whether it does is worked out
-// while the processor still searches.
+// The signed distance of p, negative where the outline contains it, and the normal. Containment stands between the
+// search and the root, since the root waits for the search and containment does not.
 pub fn distance(v: &[f64], p: Point) -> Answer
     ensures { λ r. ⌜ r ≡ distanceAnswer (now (v .entry)) p ⌝ }
 {
