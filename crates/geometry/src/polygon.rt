@@ -4,7 +4,7 @@ ghost use mathlib.Core.Bool.{cond};
 ghost use Prim.Native.Nat.{_-_, _<_, _≤_};
 ghost use lib.ListN.{length};
 ghost use Rattle.boundary.specs.Folds.{any};
-ghost use lib.Ieee.{lt};
+ghost use lib.Ieee.{unlike, lt};
 ghost use Rattle.boundary.specs.Outline.{count, vertexAt, vertices, edges};
 ghost use Rattle.geometry.specs.Polygon.{crossesOf, containsOf, between, turnOf, onEdge, locateOf, boundsOf};
 ghost use Rattle.geometry.specs.Answers.{areaAnswer, perimeterAnswer, boundsAnswer, containsAnswer, locateAnswer, distanceAnswer};
@@ -22,17 +22,18 @@ use boundary::boxes;
 use boundary::greater_of;
 use boundary::lesser_of;
 
-// Whether the edge from vertex j to vertex i counts for p, where `was` and `up` tell whether each is above p.
-fn crosses(v: &[f64], j: usize, i: usize, p: Point, was: bool, up: bool) -> bool
+// Whether an odd number of edges count for p once the edge from vertex j to vertex i is looked at, where `odd` tells
+// it of those before, and `was` and `up` whether each vertex is above p.
+fn turned_odd(v: &[f64], j: usize, i: usize, p: Point, was: bool, up: bool, odd: bool) -> bool
     requires { ⌜ (j < count (now v)) × (i < count (now v)) × (was ≡ lt (p .y) (vertexAt (now v) j .y)) × (up ≡ lt (p .y) (vertexAt (now v) i .y)) ⌝ }
-    ensures { λ r. ⌜ r ≡ crossesOf p (record { a = vertexAt (now (v .entry)) j; b = vertexAt (now (v .entry)) i }) ⌝ }
+    ensures { λ r. ⌜ r ≡ unlike odd (crossesOf p (record { a = vertexAt (now (v .entry)) j; b = vertexAt (now (v .entry)) i })) ⌝ }
 {
     if up != was {
         let a = boundary::vertex_at(v, j);
         let b = boundary::vertex_at(v, i);
-        return p.x < (a.x - b.x) * (p.y - b.y) / (a.y - b.y) + b.x;
+        return odd != (p.x < (a.x - b.x) * (p.y - b.y) / (a.y - b.y) + b.x);
     }
-    false
+    odd
 }
 
 // Whether the outline contains p: whether an odd number of its edges count. Each vertex is looked at with the one
@@ -50,7 +51,7 @@ pub fn holds(v: &[f64], p: Point) -> bool
     let mut i = 0;
     while i < n {
         let up = boundary::vertex_at(v, i).y > p.y;
-        inside = inside != crosses(v, j, i, p, was, up);
+        inside = turned_odd(v, j, i, p, was, up, inside);
         was = up;
         j = i;
         i += 1;

@@ -59,8 +59,8 @@ loop-holds c = (search needs, search needs, refl, rw (c .before .before .vertex-
 vertex-at-requires-2 : tie.Need-vertex-at-requires-2 Inv-loop μ-loop
 vertex-at-requires-2 c κs = search needs
 
-crosses-requires : tie.Need-crosses-requires Inv-loop μ-loop
-crosses-requires c κs =
+turned-odd-requires : tie.Need-turned-odd-requires Inv-loop μ-loop
+turned-odd-requires c κs =
     let q = c .before .before .before .before in
     let inv = q .loop .inv in
     let l = c .before .before .before .loop-test .taken in
@@ -77,7 +77,7 @@ loop-again c =
     let q = c .before .before .before .before .before in
     let inv = q .loop .inv in
     let l = c .before .before .before .before .loop-test .taken in
-    let e = c .crosses .ensures in (
+    let e = c .turned-odd .ensures in (
       search needs,
       inv .1,
       before-next _ _,
@@ -99,7 +99,7 @@ holds-spec =
     vertex-at-requires
     loop-holds
     vertex-at-requires-2
-    crosses-requires
+    turned-odd-requires
     add-i
     loop-less
     loop-again
