@@ -16,7 +16,7 @@ use Rattle.accept.specs.declared.Refusal.{Refusal}
 use Rattle.accept.specs.declared.Refusal.the-variants.{BadPoint}
 use Rattle.accept.specs.declared.Test.{Test}
 use Rattle.accept.specs.declared.Test.the-variants.{Passed, Failed}
-use Rattle.accept.specs.Refusals.{notFinite, outsideField, equalNeighbours, zeroArea, valuesTested, shapeTested, signTested, outlineTested, pointTested, cellTested, roomTested}
+use Rattle.accept.specs.Refusals.{_refusing_when_, given, notFinite, outsideField, equalNeighbours, zeroArea, valuesTested, shapeTested, signTested, outlineTested, pointTested, cellTested, roomTested}
 
 -- ---- one test
 abbrev failed : Test → Bool
@@ -33,6 +33,19 @@ passes false r t e = (refl, e)
 pub passes-else : (b : Bool) (r : Refusal) (t : Test) → cond b t (Failed r) ≡ Passed → (b ≡ true) × (t ≡ Passed)
 passes-else true r t e = (refl, e)
 passes-else false r t e = absurd (never e)
+
+-- a test after those before it is passed where they and it are
+pub refusing-passed : (t : Test) (r : Refusal) (fails : Bool) → (t refusing r when fails) ≡ Passed → (t ≡ Passed) × (fails ≡ false)
+unfolding _refusing_when_
+refusing-passed Passed r true e = absurd (never e)
+refusing-passed Passed r false e = (refl, refl)
+refusing-passed (Failed q) r fails e = absurd (never e)
+
+-- ---- given a test: what a function gives of it
+pub given-map : {A B : Type 0} (f : A → B) (t : Test) (a : A) (refused : Refusal → A) → f (given t a refused) ≡ given t (f a) (λ r. f (refused r))
+unfolding given
+given-map f Passed a refused = refl
+given-map f (Failed r) a refused = refl
 
 -- ---- tests 1 and 3 to 8
 pub record Shape (v : List Float) : Type 0 where

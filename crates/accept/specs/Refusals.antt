@@ -35,6 +35,19 @@ number BadEllipse = 12
 number ShortBuffer = 13
 number LongList = 14
 
+-- ---- a test after those before it
+-- what t says; where it says that those before are passed, the test that refuses with r when `fails` holds
+infixl 20 _refusing_when_
+unfoldable pub _refusing_when_ : Test → Refusal → Bool → Test
+Passed refusing r when fails = cond fails (Failed r) Passed
+(Failed q) refusing r when fails = Failed q
+
+-- ---- given a test
+-- a where the tests are passed, and what `refused` gives of the refusal where they are not
+unfoldable pub given : {A : Type 0} → Test → A → (Refusal → A) → A
+given Passed a refused = a
+given (Failed r) a refused = refused r
+
 -- two points are equal; zeros of either sign are
 abbrev pub samePoint : Point → Point → Bool
 samePoint a b = eq (a .x) (b .x) && eq (a .y) (b .y)

@@ -10,7 +10,7 @@ ghost use Rattle.boundary.specs.Folds.{any};
 ghost use Rattle.boundary.specs.Outline.{edges};
 ghost use Rattle.accept.specs.declared.Test.{Test};
 ghost use Rattle.accept.specs.Area.{crossOf, two, areaOf};
-ghost use Rattle.accept.specs.Refusals.{number, samePoint, equalNeighbours, valuesTested, shapeTested, outlineTested, signTested, pointTested, cellTested, roomTested};
+ghost use Rattle.accept.specs.Refusals.{_refusing_when_, number, samePoint, equalNeighbours, valuesTested, shapeTested, outlineTested, signTested, pointTested, cellTested, roomTested};
 ghost use Rattle.accept.specs.Verdicts.{verdictOf, edgesVerdict, testOf};
 use crate::Refusal;
 use crate::Test;
@@ -211,6 +211,16 @@ pub fn outline_tested(v: &[f64]) -> Test
     ensures { λ r. ⌜ r ≡ outlineTested (now (v .entry)) ⌝ }
 {
     test_of(outline_verdict(v))
+}
+
+// A test after those that said t: it refuses with r when `fails` holds.
+pub fn refusing(t: Test, r: Refusal, fails: bool) -> Test
+    ensures { λ n. ⌜ n ≡ (t refusing r when fails) ⌝ }
+{
+    match t {
+        Test::Passed => { if fails { Test::Failed(r) } else { Test::Passed } }
+        Test::Failed(q) => Test::Failed(q),
+    }
 }
 
 // Test 10, after those of the outline or of the set.

@@ -1,0 +1,68 @@
+-- An *index buffer* (document 01): places for 511 nodes and 1,024 items, what stands there, and what a call leaves there. Definitions only.
+use mathlib.Core.Path.{_≡_}
+use mathlib.Core.Bool.{Bool, _||_}
+use mathlib.Core.List.{List, flatMap}
+use Prim.Native.Nat.{ℕ, _+_, _≤_, _<_}
+use lib.Dec.{ltb}
+use lib.ListN.{length}
+use lib.Ieee.{Float}
+use Rattle.number.specs.Exact.{zeroᶠ}
+use Rattle.boundary.specs.declared.Bounds.{Bounds}
+use Rattle.boundary.specs.Folds.{run}
+use Rattle.accept.specs.Lists.{atFront, zeros}
+use Rattle.entries.specs.Entries.{boxAt}
+use Rattle.splits.specs.Tree.{Tree, leaf, inner, itemsOf}
+use Rattle.nodes.specs.Layout.{nodesOf, cornersOf, linksOf, itemAt, firstAt, countAt}
+
+-- the nodes' corners, four numbers each; the nodes' links, two each; the items
+pub record IndexBuffer : Type 0 where
+  pub corners : List Float
+  pub links : List ℕ
+  pub items : List ℕ
+
+abbrev pub buffer : List Float → List ℕ → List ℕ → IndexBuffer
+buffer corners links items = record { corners = corners; links = links; items = items }
+
+-- lists of so many corner numbers, link numbers and items are no index buffer: they are too short (test 13)
+abbrev pub shortSizes : ℕ → ℕ → ℕ → Bool
+shortSizes corners links items = ltb corners 2044 || (ltb links 1022 || ltb items 1024)
+
+abbrev pub shortBuffer : IndexBuffer → Bool
+shortBuffer B = shortSizes (length (B .corners)) (length (B .links)) (length (B .items))
+
+-- ---- what a call leaves there
+-- the tree's nodes, as the Rust numbers them, and its items; places past them are unchanged
+unfoldable pub holding : Tree → IndexBuffer → IndexBuffer
+unfolding nodesOf itemsOf atFront
+holding t B = record {
+  corners = atFront (flatMap cornersOf (nodesOf t)) (B .corners);
+  links = atFront (flatMap linksOf (nodesOf t)) (B .links);
+  items = atFront (itemsOf t) (B .items);
+}
+
+-- after work: zeros in all 511 nodes and 1,024 items; places past them are unchanged
+unfoldable pub cleared : IndexBuffer → IndexBuffer
+unfolding atFront
+cleared B = record {
+  corners = atFront (zeros zeroᶠ 2044) (B .corners);
+  links = atFront (zeros 0 1022) (B .links);
+  items = atFront (zeros 0 1024) (B .items);
+}
+
+-- what a call answers, and its index buffer as it leaves it
+pub record Outcome (A : Type 0) : Type 0 where
+  pub answer : A
+  pub buffer : IndexBuffer
+
+-- ---- a tree that stands in an index buffer, wherever its nodes and items are
+-- the box of node n, and the items of a leaf
+abbrev pub nodeBox : IndexBuffer → ℕ → Bounds
+nodeBox B n = boxAt (B .corners) n
+
+abbrev pub leafItems : IndexBuffer → ℕ → List ℕ
+leafItems B n = run (itemAt (B .items)) (firstAt (B .links) n) (countAt (B .links) n)
+
+-- node n and what is below it is the tree: a node with a count is a leaf with so many items, a node without one has the nodes first and first + 1 for children
+unfoldable pub Stands : IndexBuffer → ℕ → Tree → Type 0
+Stands B n (leaf b is) = (nodeBox B n ≡ b) × (0 < countAt (B .links) n) × (leafItems B n ≡ is)
+Stands B n (inner b l r) = (nodeBox B n ≡ b) × (countAt (B .links) n ≡ 0) × (firstAt (B .links) n + 2 ≤ 511) × Stands B (firstAt (B .links) n) l × Stands B (firstAt (B .links) n + 1) r
