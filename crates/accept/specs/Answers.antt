@@ -56,3 +56,8 @@ awayOf (Away d) = d
 unfoldable pub answerFor : Test → Answer → Answer
 answerFor Passed a = a
 answerFor (Failed r) a = Refused r
+
+-- all that a call leaves: its answer, and the lists that it was lent
+pub record Outcome (A B : Type 0) : Type 0 where
+  pub answer : A
+  pub lent : B

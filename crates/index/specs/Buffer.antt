@@ -49,11 +49,6 @@ cleared B = record {
   items = atFront (zeros 0 1024) (B .items);
 }
 
--- what a call answers, and its index buffer as it leaves it
-pub record Outcome (A : Type 0) : Type 0 where
-  pub answer : A
-  pub buffer : IndexBuffer
-
 -- ---- a tree that stands in an index buffer, wherever its nodes and items are
 -- the box of node n, and the items of a leaf
 abbrev pub nodeBox : IndexBuffer → ℕ → Bounds
