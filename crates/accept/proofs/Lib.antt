@@ -4,5 +4,3 @@
 pub mod TestLaws
 -- What the tests hand over, and what it tells.
 pub mod VerdictLaws
--- Zeros in the first places of a list.
-pub mod ClearLaws

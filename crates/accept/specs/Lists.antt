@@ -4,14 +4,7 @@ use Prim.Native.Nat.{ℕ}
 use lib.ListN.{length, drop, replicate}
 use Rattle.accept.specs.declared.Test.{Test}
 use Rattle.accept.specs.declared.Test.the-variants.{Passed, Failed}
-
--- xs from the front of the lent list on, and the places past the end unchanged
-unfoldable pub atFront : {A : Type 0} → List A → List A → List A
-atFront xs out = xs ++ drop (length xs) out
-
--- n zeros
-abbrev pub zeros : {A : Type 0} → A → ℕ → List A
-zeros z n = replicate n z
+use Rattle.lists.specs.Lists.{atFront}
 
 -- what a call puts into a lent list: xs at the front where the tests are passed, nothing where it is refused
 unfoldable pub writtenFor : {A : Type 0} → List A → List A → Test → List A

@@ -1,6 +1,5 @@
 // Which inputs are accepted: the refusals, the tests of outlines, points and boxes, and what a call answers.
 pub mod answers;
-pub mod lists;
 pub mod refusals;
 
 use boundary::Bounds;

@@ -15,18 +15,19 @@ use Rattle.algebra.specs.Lin as Lin
 use Rattle.algebra.specs.Lin.{le-from}
 use Rattle.algebra.specs.Order.{_≦_, _≺_, Within, within-natAbs, ≤ℤ-trans, ≤ℤ-or-<ℤ, <ℤ→≤ℤ, mul-nonneg, mul-le, le-of-within, pos-nonneg}
 use Rattle.algebra.specs.Mono.{mul-mono}
-use Rattle.number.specs.Exact.{Is, Sized, Held, zeroᶠ}
+use Rattle.number.specs.Exact.{Is, Sized, Held, zeroᶠ, one}
 use Rattle.number.specs.Hypot.{Short}
 use Rattle.number.specs.Rounding.{Rounds}
 use Rattle.signs.specs.Signs.{clampOf}
 use Rattle.number.proofs.Operations.{equation→is, zero-is, finite-is, is-held, add-rounds, sub-rounds, mul-rounds}
 use Rattle.number.proofs.RoundingLaws.{rounds-order, rounds-order-is, rounded-nonneg, rounded-nonpos}
 use Rattle.number.proofs.ExactLaws.{mul-result}
-use Rattle.number.proofs.OrderLaws.{is-order, le-self, not-below, below-le, finite-between, clamp-inside}
+use Rattle.number.proofs.OrderLaws.{is-order, le-self, not-below, below-le, finite-between, clamp-inside, clamp-one-of}
 use Rattle.number.proofs.Values.{held-not-nan, add-grown, sub-grown, is-rounds, is-short, products-held, quotient-not-nan}
+use Rattle.number.proofs.Basics.{one-of}
 use Rattle.boundary.specs.declared.Point.{Point}
 use Rattle.boundary.specs.declared.Edge.{Edge}
-use Rattle.boundary.specs.Line.{one, paramOf, alongOf}
+use Rattle.boundary.specs.Line.{paramOf, alongOf}
 use Rattle.boundary.specs.Boxes.{FieldValue, FieldPoint, FieldEdge, Between, Share, lesser, greater, hair}
 use Rattle.boundary.proofs.FieldLaws.{field-held, field-is, field-not-nan, way-of, field-sub}
 
@@ -36,10 +37,9 @@ share : {t : Float} → T (fits binary64 t) → T (le zeroᶠ t) → T (le t one
 share {t} F l h = record { held = record { fits = F; finite = finite-between zeroᶠ t one tt tt l h }; between = record { low = l; high = h } }
 
 clamped-share : (x : Float) → T (fits binary64 x) → T (not (isNan x)) → Share (clampOf x zeroᶠ one)
-unfolding clampOf
 clamped-share x F n =
     let c = clamp-inside x zeroᶠ one n (unfold le in tt) (unfold isNan in tt) in
-    share (cond-fits binary64 (lt x zeroᶠ) zeroᶠ (cond (lt one x) one x) (unfold fits in tt) (cond-fits binary64 (lt one x) one x (unfold fits in tt) F)) (c .0) (c .1)
+    share (clamp-one-of (λ v. T (fits binary64 v)) F (unfold fits in tt) (unfold fits in tt)) (c .0) (c .1)
 
 pub param-share : {e : Edge} {p : Point} → FieldEdge e → FieldPoint p → Share (paramOf e p)
 unfolding paramOf
@@ -166,10 +166,6 @@ ends-between a b p q = (record { low = low-a (lt b a) refl; high = high-a (lt a 
     high-b : (c : Bool) → lt a b ≡ c → T (le b (cond c b a))
     high-b true e = le-self b q
     high-b false e = not-below a b p q e
-
-pub one-of : (P : Float → Type 0) (c : Bool) {x y : Float} → P x → P y → P (cond c x y)
-one-of P true p q = p
-one-of P false p q = q
 
 -- between the ends, widened
 pub along-widened : {a b t w : Float} → FieldValue a → FieldValue b → Share t → Held w → T (le hair w) → Between (sub binary64 (lesser a b) w) (alongOf a b t) (add binary64 (greater a b) w)

@@ -15,7 +15,7 @@ use Rattle.algebra.specs.Lin as Lin
 use Rattle.algebra.specs.Lin.{le-from}
 use Rattle.algebra.specs.Order.{_≦_, mul-nonneg, mul-le, natAbs-mul, pos-nonneg}
 use Rattle.algebra.specs.Mono.{mul-mono}
-use Rattle.number.specs.Exact.{Is, Held, zeroᶠ}
+use Rattle.number.specs.Exact.{Is, Held, zeroᶠ, one}
 use Rattle.number.specs.Hypot.{Short}
 use Rattle.number.specs.Rounding.{Rounds}
 use Rattle.signs.specs.Signs.{absOf, maxOf}
@@ -29,10 +29,11 @@ use Rattle.number.proofs.Values.{held-not-nan, rounded-natAbs, is-rounds, round
 use Rattle.boundary.specs.declared.Point.{Point}
 use Rattle.boundary.specs.declared.Edge.{Edge}
 use Rattle.boundary.specs.declared.Bounds.{Bounds}
-use Rattle.boundary.specs.Line.{one, paramOf, alongOf, footOf, lineNear}
+use Rattle.boundary.specs.Line.{paramOf, alongOf, footOf, lineNear}
 use Rattle.boundary.specs.Boxes.{PointOf, FieldValue, FieldPoint, FieldEdge, FieldBox, FiniteBox, Between, Share, Inside, lesser, greater, hull, edgeBox, hair, nano, scaleOf, widenedBy, widenedOf, Around, gapAlong, gapOf}
 use Rattle.boundary.proofs.FieldLaws.{field-held, field-is, field-box-finite, field-not-nan, is-field, field-abs, field-sub, field-add, widened-finite}
-use Rattle.boundary.proofs.AlongLaws.{param-share, along-inside, along-widened, ends-between, one-of, along-fits, between-held, along-short}
+use Rattle.number.proofs.Basics.{one-of}
+use Rattle.boundary.proofs.AlongLaws.{param-share, along-inside, along-widened, ends-between, along-fits, between-held, along-short}
 
 -- ---- an edge's box
 
@@ -240,11 +241,7 @@ pub foot-short : {e : Edge} {p : Point} → FieldEdge e → FieldPoint p → Sho
 unfolding footOf
 foot-short E P = let t = param-share E P in (along-short (E .a .x) (E .b .x) (P .x) t, along-short (E .a .y) (E .b .y) (P .y) t)
 
--- ---- worked examples: 1e-9 as the Rust has it, and the gap of the box from (0, 0) to (1, 1) at (4, 5) is 5
+-- ---- a worked example: 1e-9 as the Rust has it
 example-nano : ofBits binary64 0x3e11_2e0b_e826_d695 ≡ nano
 unfolding ofBits
 example-nano = refl
-
-example-gap : gapOf (record { min = record { x = zeroᶠ; y = zeroᶠ }; max = record { x = one; y = one } }) (record { x = fin false 1 (pos 2); y = fin false 5 (pos 0) }) ≡ fin false 5 (pos 0)
-unfolding gapOf
-example-gap = refl

@@ -1,9 +1,5 @@
 -- Laws of the boundary layer.
 
--- What a loop that folds a run or a list cites.
-pub mod FoldLaws
--- A run by its last member, and a run reversed.
-pub mod RunLaws
 -- Values of the field, and boxes of such.
 pub mod FieldLaws
 -- The nearest point of an edge lies between its ends, widened, of one axis.

@@ -3,13 +3,12 @@ use mathlib.Core.Bool.{Bool, true, false, cond, _&&_}
 use lib.Dec.{T}
 use lib.IntN.{pos, negsuc}
 use lib.Ieee.{Float, fin, inf, binary64, add, sub, mul, neg, lt, le, fits}
-use Rattle.number.specs.Exact.{Held, zeroᶠ}
+use Rattle.number.specs.Exact.{Held, zeroᶠ, one}
 use Rattle.number.specs.Hypot.{hypotOf}
 use Rattle.signs.specs.Signs.{absOf, maxOf}
 use Rattle.boundary.specs.declared.Point.{Point}
 use Rattle.boundary.specs.declared.Edge.{Edge}
 use Rattle.boundary.specs.declared.Bounds.{Bounds}
-use Rattle.boundary.specs.Line.{one}
 
 -- ---- the *field* (document 01): every finite number of magnitude at most 1,048,576
 abbrev pub limit : Float
@@ -127,7 +126,6 @@ abbrev pub hair : Float
 hair = fin false 1 (negsuc 30)
 
 unfoldable pub scaleOf : Bounds → Float
-unfolding maxOf absOf
 scaleOf b = maxOf (maxOf (maxOf (maxOf one (absOf (b .min .x))) (absOf (b .min .y))) (absOf (b .max .x))) (absOf (b .max .y))
 
 -- widened by m
@@ -143,9 +141,9 @@ widenedOf b = widenedBy (mul binary64 nano (scaleOf b)) b
 
 -- ---- the gap of a box, as `nearest` has it: how far p is outside lo to hi, of one axis, and the length of both
 unfoldable pub gapAlong : Float → Float → Float → Float
-unfolding maxOf sub
+unfolding sub
 gapAlong lo hi p = maxOf (maxOf (sub binary64 lo p) (sub binary64 p hi)) zeroᶠ
 
 unfoldable pub gapOf : Bounds → Point → Float
-unfolding gapAlong hypotOf
+unfolding gapAlong
 gapOf b p = hypotOf (gapAlong (b .min .x) (b .max .x) (p .x)) (gapAlong (b .min .y) (b .max .y) (p .y))

@@ -3,10 +3,10 @@ use mathlib.Core.List.{List}
 use lib.Ieee.{Float, binary64, sub}
 use Rattle.number.specs.Hypot.{hypotOf}
 use Rattle.boundary.specs.declared.Edge.{Edge}
-use Rattle.boundary.specs.Folds.{total}
+use Rattle.lists.specs.Lists.{total}
 
 unfoldable pub edgeLength : Edge → Float
-unfolding hypotOf sub
+unfolding sub
 edgeLength e = hypotOf (sub binary64 (e .b .x) (e .a .x)) (sub binary64 (e .b .y) (e .a .y))
 
 unfoldable pub lengthOf : List Edge → Float

@@ -1,7 +1,5 @@
 -- What the boundary layer promises. Definitions only.
 
--- Runs of values, and folds over lists.
-pub mod Folds
 -- An outline's vertices and edges.
 pub mod Outline
 -- The length of edges.

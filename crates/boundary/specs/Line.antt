@@ -2,16 +2,13 @@
 use mathlib.Core.Bool.{false, cond}
 use lib.IntN.{pos, negsuc}
 use lib.Ieee.{Float, fin, binary64, add, sub, mul, div, neg, lt, eq}
-use Rattle.number.specs.Exact.{zeroᶠ}
+use Rattle.number.specs.Exact.{zeroᶠ, one}
 use Rattle.number.specs.Root.{sqrtOf}
 use Rattle.number.specs.Hypot.{hypotOf}
 use Rattle.signs.specs.Signs.{clampOf}
 use Rattle.boundary.specs.declared.Point.{Point}
 use Rattle.boundary.specs.declared.Edge.{Edge}
 use Rattle.boundary.specs.declared.Near.{Near}
-
-abbrev pub one : Float
-one = fin false 1 (pos 0)
 
 abbrev pub half : Float
 half = fin false 1 (negsuc 0)
@@ -54,12 +51,11 @@ footOf e p = let t = paramOf e p in record { x = alongOf (e .a .x) (e .b .x) t; 
 
 -- the line's own normal, to the right of its way
 unfoldable pub normalOf : Edge → Point
-unfolding sqrtOf
 normalOf e =
     let w = wayOf e in
     let l = sqrtOf (squaresOf w) in
     record { x = cond (lt zeroᶠ l) (div binary64 (w .y) l) one; y = cond (lt zeroᶠ l) (div binary64 (neg (w .x)) l) zeroᶠ }
 
 unfoldable pub lineNear : Edge → Point → Near
-unfolding footOf normalOf hypotOf
+unfolding footOf normalOf
 lineNear e p = let q = footOf e p in record { d = hypotOf (sub binary64 (p .x) (q .x)) (sub binary64 (p .y) (q .y)); q = q; n = normalOf e }

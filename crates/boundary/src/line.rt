@@ -4,6 +4,7 @@ ghost use Rattle.boundary.specs.Line.{wayOf, squaresOf, alongOf, aheadOf
 use crate::Edge;
 use crate::Near;
 use crate::Point;
+use number::choices;
 use number::root::hypot;
 use number::root::sqrt;
 use signs::pick;
@@ -51,10 +52,10 @@ pub fn foot(e: Edge, p: Point) -> Point
     let l2 = squares(w);
     let t = ((p.x - e.a.x) * w.x + (p.y - e.a.y) * w.y) / l2;
     if l2 > 0.0 {
-        if t >= 1.0 {
+        if choices::clamps_to_one(t) {
             return e.b;
         }
-        if !(t < 0.0) {
+        if choices::clamps_to_itself(t) {
             return ahead(e, t);
         }
     }

@@ -1,7 +1,5 @@
 -- Laws of the clip.
 
--- Runs that are cut in two, and folds over them.
-pub mod Runs
 -- Which lines are not cut, told without a division.
 pub mod CutLaws
 -- The two passes are the clip; what a clip gives that keeps all parts, or none.

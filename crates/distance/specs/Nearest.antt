@@ -3,14 +3,13 @@ use mathlib.Core.Bool.{Bool, false, cond}
 use mathlib.Core.List.{List}
 use lib.IntN.{negsuc}
 use lib.Ieee.{Float, inf, fin, binary64, sub, mul, div, neg, lt}
-use Rattle.number.specs.Exact.{zeroᶠ}
+use Rattle.number.specs.Exact.{zeroᶠ, one}
 use Rattle.signs.specs.Signs.{absOf, maxOf}
 use Rattle.boundary.specs.declared.Point.{Point}
 use Rattle.boundary.specs.declared.Edge.{Edge}
 use Rattle.boundary.specs.declared.Near.{Near}
 use Rattle.boundary.specs.declared.Distance.{Distance}
-use Rattle.boundary.specs.Folds.{fold}
-use Rattle.boundary.specs.Line.{one}
+use Rattle.lists.specs.Lists.{fold}
 use Rattle.pieces.specs.Piece.{lineOf, pieceNear}
 
 -- ---- `distance`: the first among equals
@@ -31,7 +30,6 @@ abbrev pub units16 : Float
 units16 = fin false 1 (negsuc 47)
 
 unfoldable pub roundingOf : Point → Point → Float
-unfolding absOf maxOf
 roundingOf q p = mul binary64 units16 (maxOf (maxOf (maxOf (absOf (p .x)) (absOf (p .y))) (absOf (q .x))) (absOf (q .y)))
 
 -- -x where the point is inside

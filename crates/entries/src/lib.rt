@@ -2,34 +2,15 @@
 ghost use mathlib.Core.Path.{_≡_};
 ghost use mathlib.Core.List.{flatMap};
 ghost use Prim.Native.Nat.{_*_, _≤_, _<_, _^_};
-ghost use lib.Dec.{T};
-ghost use lib.Ieee.{nan, le};
 ghost use lib.ListN.{length, getD, set};
 ghost use lib.Seq.{sets};
-ghost use Rattle.signs.specs.Signs.{absOf, maxOf};
-ghost use Rattle.boundary.specs.Line.{one};
 ghost use Rattle.boundary.specs.Boxes.{scaleOf, widenedOf};
-ghost use Rattle.boundary.specs.Folds.{run};
+ghost use Rattle.lists.specs.Lists.{run};
 ghost use Rattle.entries.specs.Entries.{boxCount, boxAt, boxNumbers, wideAt, centreOf};
 use boundary::Bounds;
 use boundary::Point;
 use boundary::middle_of;
-
-// The number at i, NaN past the end.
-pub fn number_at(v: &[f64], i: usize) -> f64
-    ensures { λ r. ⌜ r ≡ getD (now (v .entry)) i nan ⌝ }
-{
-    if i < v.len() { v[i] } else { 0.0 / 0.0 }
-}
-
-// Stores x at i; nothing past the end.
-pub fn put_number(v: &mut [f64], i: usize, x: f64)
-    ensures { λ _. ⌜ now (v .exit) ≡ set (now (v .entry)) i x ⌝ }
-{
-    if i < v.len() {
-        v[i] = x;
-    }
-}
+use number::choices;
 
 // Box i of a list's numbers, each of which may be past the end.
 fn box_tested(v: &[f64], i: usize) -> Bounds
@@ -39,12 +20,12 @@ fn box_tested(v: &[f64], i: usize) -> Bounds
     let k = 4 * i;
     Bounds {
         min: Point {
-            x: number_at(v, k),
-            y: number_at(v, k + 1),
+            x: lists::number_at(v, k),
+            y: lists::number_at(v, k + 1),
         },
         max: Point {
-            x: number_at(v, k + 2),
-            y: number_at(v, k + 3),
+            x: lists::number_at(v, k + 2),
+            y: lists::number_at(v, k + 3),
         },
     }
 }
@@ -76,10 +57,10 @@ fn put_tested(v: &mut [f64], i: usize, b: Bounds)
     ensures { λ _. ⌜ now (v .exit) ≡ sets (now (v .entry)) (4 * i) (boxNumbers b) ⌝ }
 {
     let k = 4 * i;
-    put_number(v, k, b.min.x);
-    put_number(v, k + 1, b.min.y);
-    put_number(v, k + 2, b.max.x);
-    put_number(v, k + 3, b.max.y);
+    lists::put_number(v, k, b.min.x);
+    lists::put_number(v, k + 1, b.min.y);
+    lists::put_number(v, k + 2, b.max.x);
+    lists::put_number(v, k + 3, b.max.y);
 }
 
 // The same with one test for all four numbers.
@@ -98,23 +79,14 @@ pub fn put_box(v: &mut [f64], i: usize, b: Bounds)
     put_tested(v, i, b);
 }
 
-// The larger of s, which is 1 at least, and the magnitude of y.
-fn larger(s: f64, y: f64) -> f64
-    requires { ⌜ T (le one s) ⌝ }
-    ensures { λ r. ⌜ (r ≡ maxOf s (absOf y)) × T (le one r) ⌝ }
-{
-    let m = signs::pick(y < 0.0, -y, y);
-    signs::pick(s < m, m, s)
-}
-
 // The largest of 1 and the corners' magnitudes.
 fn scale(b: Bounds) -> f64
     ensures { λ r. ⌜ r ≡ scaleOf b ⌝ }
 {
-    let left = larger(1.0, b.min.x);
-    let bottom = larger(left, b.min.y);
-    let right = larger(bottom, b.max.x);
-    larger(right, b.max.y)
+    let left = choices::larger(1.0, b.min.x);
+    let bottom = choices::larger(left, b.min.y);
+    let right = choices::larger(bottom, b.max.x);
+    choices::larger(right, b.max.y)
 }
 
 // The box, widened by a hair.
@@ -156,8 +128,8 @@ pub fn widen(boxes: &[f64], wide: &mut [f64], xs: &mut [f64], ys: &mut [f64])
         let b = widened(box_at(boxes, i));
         let c = centre(b);
         put_box(wide, i, b);
-        put_number(xs, i, c.x);
-        put_number(ys, i, c.y);
+        lists::put_number(xs, i, c.x);
+        lists::put_number(ys, i, c.y);
         i += 1;
     }
 }
@@ -169,7 +141,7 @@ pub fn count_up(items: &mut [u32])
 {
     let mut i = 0;
     while i < items.len() {
-        sorts::put(items, i, i as u32);
+        lists::put(items, i, i as u32);
         i += 1;
     }
 }

@@ -24,7 +24,7 @@ use Rattle.boundary.specs.declared.Point.{Point}
 use Rattle.boundary.specs.declared.Edge.{Edge}
 use Rattle.boundary.specs.declared.Near.{Near}
 use Rattle.boundary.specs.declared.Distance.{Distance}
-use Rattle.boundary.specs.Folds.{fold, any}
+use Rattle.lists.specs.Lists.{fold, any, Every, Some}
 use Rattle.boundary.specs.Line.{lineNear}
 use Rattle.pieces.specs.Piece.{pieceNear}
 use Rattle.distance.specs.Nearest.{nearer, farAway, nearestOf, roundingOf, flipped, signedOf}
@@ -32,11 +32,10 @@ use Rattle.geometry.specs.Polygon.{containsOf}
 use Rattle.accept.specs.Refusals.{samePoint}
 use Rattle.exact.specs.Whole.{PointZ, EdgeZ, onEdgeZ, boundaryZ, insideZ, locationZ}
 use Rattle.exact.specs.Grid.{PointOn, EdgeOn, EdgesOn}
-use Rattle.exact.specs.Grid.Each.{none, more}
-use Rattle.exact.specs.Distance.{lengthZ, numZ, denZ, part, AtMost, AtLeast, Near24, Every, Some, NearLeast, SignedNear}
-use Rattle.exact.specs.Distance.Every.{empty, also}
-use Rattle.exact.specs.Distance.Some.{here, there}
-use Rattle.exact.proofs.EachLaws.{every-fails}
+use Rattle.lists.specs.Lists.Each.{none, more}
+use Rattle.exact.specs.Distance.{lengthZ, numZ, denZ, part, AtMost, AtLeast, Near24, NearLeast, SignedNear}
+use Rattle.lists.proofs.FoldLaws.{every-fails}
+use Rattle.lists.specs.Lists.Some.{here, there}
 use Rattle.exact.proofs.Location.{contains-exact}
 use Rattle.exact.proofs.Apart.{zero-squares, off-edge-apart}
 use Rattle.exact.proofs.EdgeDistance.{den-nonneg, den-small, edge-near}
@@ -55,8 +54,9 @@ length-above {e} {f} E other = ⊎-elim (λ h. absurd (same (zero-squares (f .b 
     same z = subst T other (and-i (eq (e .a .x) (e .b .x)) (eq (e .a .y) (e .b .y)) (→eq (E .a .x .is) (E .b .x .is) (meet (z .0))) (→eq (E .a .y .is) (E .b .y .is) (meet (z .1))))
 
 lengths-above : {es : List Edge} {fs : List EdgeZ} → EdgesOn es fs → Every (λ e. samePoint (e .a) (e .b) ≡ false) es → Long fs
-lengths-above none empty = empty
-lengths-above (more E r) (also h s) = also (length-above E h) (lengths-above r s)
+unfolding Every
+lengths-above none h = tt
+lengths-above (more E r) (h, s) = (length-above E h, lengths-above r s)
 
 -- ---- the least over the edges
 -- what is at least u away is at least anything less away
@@ -96,15 +96,16 @@ module _ {p : Point} {q : PointZ} (P : PointOn p q) where
 
   -- from an edge's own distance on
   taken : {d d' : Float} {f : EdgeZ} {fs : List EdgeZ} (h : Near24 d (numZ f q) (denZ f q)) → pos 0 ≺ lengthZ f → (w : Walked (h .u) fs d') → NearLeast (f ∷ fs) q (w .u)
+  unfolding Every
   taken {f = f} h l w = record {
-    least = also (less-at-least (den-nonneg f q l) (w .under) (h .below)) (w .least);
+    least = (less-at-least (den-nonneg f q l) (w .under) (h .below), w .least);
     most = ⊎-elim (λ same. here (subst (λ (u : ℤ). AtMost u (numZ f q) (denZ f q)) (sym same) (h .above))) there (w .most);
   }
 
   walk : {es : List Edge} {fs : List EdgeZ} {start : ℤ} (best : Near) → EdgesOn es fs → Long fs → Is 1074 (best .d) start → pos 0 ≦ start → Walked start fs (walked best es)
-  unfolding fold
-  walk {start = start} best none empty i h = record { u = start; is = i; plus = h; under = ≤ℤ-of-eq refl; least = empty; most = inl refl }
-  walk {es = e ∷ es} {fs = f ∷ fs} {start = start} best (more E r) (also l ls) i h =
+  unfolding fold Every
+  walk {start = start} best none e i h = record { u = start; is = i; plus = h; under = ≤ℤ-of-eq refl; least = tt; most = inl refl }
+  walk {es = e ∷ es} {fs = f ∷ fs} {start = start} best (more E r) (l, ls) i h =
       let n = edge-near E P l in
       subst (λ (b : Bool). Walked start (f ∷ fs) (walked (cond b (lineNear e p) best) es)) (sym (lt-is (n .is) i)) (go n (ltZ (n .u) start) refl (walk (lineNear e p) r ls (n .is) (n .plus)) (walk best r ls i h))
     where
@@ -116,22 +117,23 @@ module _ {p : Point} {q : PointZ} (P : PointOn p q) where
         is = v .is;
         plus = v .plus;
         under = v .under;
-        least = also (less-at-least (den-nonneg f q l) (≤ℤ-trans (v .under) (not-lt c)) (n .below)) (v .least);
+        least = (less-at-least (den-nonneg f q l) (≤ℤ-trans (v .under) (not-lt c)) (n .below), v .least);
         most = ⊎-elim inl (λ m. inr (there m)) (v .most);
       }
 
   nearest-near : {es : List Edge} {fs : List EdgeZ} → EdgesOn es fs → Long fs → 0 < length es → Magnitude fs q (nearestOf es p .d)
-  unfolding nearestOf pieceNear fold
-  nearest-near none empty l = absurd (omega arith)
-  nearest-near {es = e ∷ es} {fs = f ∷ fs} (more E r) (also l ls) some =
+  unfolding nearestOf pieceNear fold Every
+  nearest-near none h l = absurd (omega arith)
+  nearest-near {es = e ∷ es} {fs = f ∷ fs} (more E r) (l, ls) some =
       let n = edge-near E P l in
       let w = walk (lineNear e p) r ls (n .is) (n .plus) in
       subst (λ (b : Bool). Magnitude (f ∷ fs) q (walked (cond b (lineNear e p) (farAway p)) es)) (sym (below-infinity (n .is))) (record { u = w .u; is = w .is; plus = w .plus; near = taken n l w })
 
   -- a point of the grid that is on no edge is more than 2 ^ -24 of a step from each
   none-at-zero : {es : List Edge} {fs : List EdgeZ} → EdgesOn es fs → Long fs → Every (λ f. onEdgeZ q f ≡ false) fs → Some (λ f. AtMost (pos 0) (numZ f q) (denZ f q)) fs → ⊥
-  none-at-zero (more {y = f} E r) (also l ls) (also o os) (here m) = too-near part (numZ f q) (denZ f q) (record { lt = tt }) (off-edge-apart f q l (λ t. subst T o t)) (den-small E P l) (m .holds)
-  none-at-zero (more E r) (also l ls) (also o os) (there m) = none-at-zero r ls os m
+  unfolding Every
+  none-at-zero (more {y = f} E r) (l, ls) (o, os) (here m) = too-near part (numZ f q) (denZ f q) (record { lt = tt }) (off-edge-apart f q l (λ t. subst T o t)) (den-small E P l) (m .holds)
+  none-at-zero (more E r) (l, ls) (o, os) (there m) = none-at-zero r ls os m
 
 -- ---- the sign
 flipped-is : {x : Float} {u : ℤ} (s : Bool) → Is 1074 x u → Is 1074 (flipped s x) (cond s (negℤ u) u)

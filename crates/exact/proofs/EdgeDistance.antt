@@ -14,7 +14,7 @@ use Rattle.algebra.specs.Order.{_≦_, _≺_, ord, Within, within-natAbs, le-of
 use Rattle.algebra.specs.Lin as L
 use Rattle.algebra.specs.Lin.{le-from}
 use Rattle.algebra.specs.Mono.{mul-mono, mul-cancel}
-use Rattle.number.specs.Exact.{Is, Sized}
+use Rattle.number.specs.Exact.{Is, Sized, one}
 use Rattle.number.specs.Rounding.{Result}
 use Rattle.number.specs.Hypot.{hypotOf}
 use Rattle.number.proofs.Operations.{zero-is, rescale}
@@ -24,7 +24,7 @@ use Rattle.number.proofs.Compare.{lt-is, lt-true, eq→}
 use Rattle.number.proofs.HypotError.{HypotNear, hypot-relative}
 use Rattle.boundary.specs.declared.Point.{Point}
 use Rattle.boundary.specs.declared.Edge.{Edge}
-use Rattle.boundary.specs.Line.{one, wayOf, squaresOf, paramOf, alongOf, footOf, lineNear}
+use Rattle.boundary.specs.Line.{wayOf, squaresOf, paramOf, alongOf, footOf, lineNear}
 use Rattle.exact.specs.Whole.{PointZ, EdgeZ}
 use Rattle.exact.specs.Grid.{OnGrid, PointOn, EdgeOn}
 use Rattle.exact.specs.Distance.{Stand, standOf, dotZ, lengthZ, denOf, numZ, denZ, step, part, Near24}

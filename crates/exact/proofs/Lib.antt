@@ -34,8 +34,6 @@ pub mod Apart
 pub mod Line
 -- Points between two ends.
 pub mod Between
--- Lists related member by member.
-pub mod EachLaws
 -- An outline's edges are the loop of its vertices.
 pub mod Loop
 -- A loop walked backwards.

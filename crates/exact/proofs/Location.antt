@@ -7,14 +7,13 @@ use lib.Dec.{T}
 use lib.Ieee.{unlike}
 use Rattle.boundary.specs.declared.Point.{Point}
 use Rattle.boundary.specs.declared.Edge.{Edge}
-use Rattle.boundary.specs.Folds.{fold, any, oddly}
+use Rattle.lists.specs.Lists.{fold, any, oddly, Every}
 use Rattle.geometry.specs.Polygon.{crossesOf, containsOf, onEdge, locateOf}
 use Rattle.exact.specs.Whole.{PointZ, EdgeZ, onEdgeZ, boundaryZ, crossesZ, insideZ, locationZ}
 use Rattle.exact.specs.Grid.{PointOn, EdgesOn}
-use Rattle.exact.specs.Grid.Each.{none, more}
-use Rattle.exact.specs.Distance.{Every}
-use Rattle.exact.specs.Distance.Every.{empty, also}
-use Rattle.exact.proofs.EachLaws.{any-each, every-fails}
+use Rattle.lists.specs.Lists.Each.{none, more}
+use Rattle.lists.proofs.FoldLaws.{every-fails}
+use Rattle.lists.proofs.MemberLaws.{any-each}
 use Rattle.exact.proofs.OneEdge.{on-edge-exact, crosses-exact}
 
 module _ {p : Point} {q : PointZ} (P : PointOn p q) where
@@ -24,9 +23,9 @@ module _ {p : Point} {q : PointZ} (P : PointOn p q) where
 
   -- from b on, where no edge has the point on it
   inside-from : {es : List Edge} {fs : List EdgeZ} (b : Bool) → EdgesOn es fs → Every (λ f. onEdgeZ q f ≡ false) fs → fold (λ b e. unlike b (crossesOf p e)) b es ≡ fold (λ b f. unlike b (crossesZ q f)) b fs
-  unfolding fold
-  inside-from b none empty = refl
-  inside-from b (more {y = f} E r) (also h s) = rw (crosses-exact E P (λ t. subst T h t)) (inside-from (unlike b (crossesZ q f)) r s)
+  unfolding Every fold
+  inside-from b none h = refl
+  inside-from b (more {y = f} E r) (h, s) = rw (crosses-exact E P (λ t. subst T h t)) (inside-from (unlike b (crossesZ q f)) r s)
 
 -- beyond the boundary
 pub contains-exact : {es : List Edge} {fs : List EdgeZ} {p : Point} {q : PointZ} → EdgesOn es fs → PointOn p q → boundaryZ fs q ≡ false → containsOf es p ≡ insideZ fs q

@@ -20,7 +20,7 @@ use Rattle.exact.specs.OneOutline.{GridExact}
 use Rattle.exact.proofs.Area.{area-exact}
 use Rattle.exact.proofs.Location.{location-exact}
 use Rattle.exact.proofs.Distance.{distance-near}
-use Rattle.exact.proofs.Loop.{length-run}
+use Rattle.lists.proofs.RunLaws.{length-run}
 use Rattle.exact.proofs.WholeEdges.{edges-on}
 use Rattle.accept.proofs.TestLaws.{shape, accepted}
 use Rattle.exact.proofs.Tests.{grid-in-field}

@@ -11,13 +11,13 @@ use Rattle.algebra.specs.Quote.{quote}
 use Rattle.algebra.specs.Order.{_≦_, _≺_, Within, ≤ℤ-trans, ≤ℤ-of-eq, <ℤ→≤ℤ, mul-pos, nonneg-nat}
 use Rattle.algebra.specs.Lin.{le, lt, le-from}
 use Rattle.algebra.specs.Mono.{mul-mono}
-use Rattle.number.specs.Exact.{Is, zeroᶠ}
+use Rattle.number.specs.Exact.{Is, zeroᶠ, one}
 use Rattle.number.specs.Rounding.{Result}
 use Rattle.signs.specs.Signs.{clampOf}
 use Rattle.number.proofs.Operations.{equation→is, zero-is}
+use Rattle.number.proofs.OrderLaws.{clamp-is}
 use Rattle.number.proofs.RoundingLaws.{rounded-within, rounded-relative, rounded-nonneg, rounded-nonpos}
 use Rattle.number.proofs.Compare.{lt-is, is-lt, not-lt}
-use Rattle.boundary.specs.Line.{one}
 use Rattle.exact.specs.Distance.{Stand}
 use Rattle.exact.specs.Distance.Stand.{before, beside, past}
 use Rattle.exact.proofs.Standing.{Stands, reach}
@@ -50,15 +50,6 @@ pub record Param (t : Float) (l2 D : ℤ) : Type 0 where
 -- ---- clamping
 abbrev clampZ : ℤ → ℤ
 clampZ x = cond (ltZ x (pos 0)) (pos 0) (cond (ltZ U x) U x)
-
-clamp-is : {t : Float} {x : ℤ} → Is 1074 t x → Is 1074 (clampOf t zeroᶠ one) (clampZ x)
-unfolding clampOf
-clamp-is {t} {x} h = rw (lt-is h (zero-is 1074), lt-is one-is h) (go (ltZ x (pos 0)) (ltZ U x))
-  where
-    go : (b c : Bool) → Is 1074 (cond b zeroᶠ (cond c one t)) (cond b (pos 0) (cond c U x))
-    go true c = zero-is 1074
-    go false true = one-is
-    go false false = h
 
 clamp-elim : (P : ℤ → Type 0) (x : ℤ) → (x ≺ pos 0 → P (pos 0)) → (U ≺ x → P U) → (pos 0 ≦ x → x ≦ U → P x) → P (clampZ x)
 clamp-elim P x f g h = go (ltZ x (pos 0)) refl (ltZ U x) refl
@@ -109,7 +100,7 @@ module _ {t : Float} (dot l2 : ℤ) (L0 : pos 0 ≺ l2) (r : Result t (dot *ℤ 
   pub clamped : (s : Stand) → Stands dot l2 s → Param (clampOf t zeroᶠ one) l2 (reach s dot l2)
   clamped s h = record {
     x = clampZ (r .R);
-    is = clamp-is (r .is);
+    is = clamp-is (r .is) (zero-is 1074) one-is;
     low = clamp-elim (λ x. pos 0 ≦ x) (r .R) (λ h. record { le = tt }) (λ h. record { le = tt }) (λ h k. h);
     high = clamp-elim (λ x. x ≦ U) (r .R) (λ h. record { le = tt }) (λ h. record { le = tt }) (λ h k. k);
     near = go s h;

@@ -9,6 +9,7 @@ use lib.Ieee.{Float}
 use Rattle.algebra.specs.Order.{_≦_, _≺_, absℤ}
 use Rattle.number.specs.Exact.{Is}
 use Rattle.exact.specs.Whole.{PointZ, EdgeZ, turnZ, locationZ}
+use Rattle.lists.specs.Lists.{Every, Some}
 
 -- ---- one edge
 abbrev pub squaresZ : ℤ → ℤ → ℤ
@@ -96,15 +97,6 @@ pub record Near24 (d : Float) (num den : ℤ) : Type 0 where
   pub below : AtLeast u num den
 
 -- ---- all edges
--- every member, and some member, of a list is such
-pub data Every {A : Type 0} (R : A → Type 0) : List A → Type 0 where
-  empty : Every R []
-  also : {x : A} {xs : List A} → R x → Every R xs → Every R (x ∷ xs)
-
-pub data Some {A : Type 0} (R : A → Type 0) : List A → Type 0 where
-  here : {x : A} {xs : List A} → R x → Some R (x ∷ xs)
-  there : {x : A} {xs : List A} → Some R xs → Some R (x ∷ xs)
-
 -- u units are within 2 ^ -24 of a step of the exact distance: from no edge is the point less than u - 2 ^ -24 away, and from one at most u + 2 ^ -24
 pub record NearLeast (fs : List EdgeZ) (q : PointZ) (u : ℤ) : Type 0 where
   pub least : Every (λ f. AtLeast u (numZ f q) (denZ f q)) fs

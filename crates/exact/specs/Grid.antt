@@ -7,6 +7,7 @@ use Rattle.number.specs.Exact.{Sized}
 use Rattle.boundary.specs.declared.Point.{Point}
 use Rattle.boundary.specs.declared.Edge.{Edge}
 use Rattle.exact.specs.Whole.{PointZ, EdgeZ}
+use Rattle.lists.specs.Lists.{Each}
 
 -- x is exactly z steps, z / 2 ^ 10, and z is at most 2 ^ 20 either way
 abbrev pub OnGrid : Float → ℤ → Type 0
@@ -19,11 +20,6 @@ pub record PointOn (p : Point) (q : PointZ) : Type 0 where
 pub record EdgeOn (e : Edge) (f : EdgeZ) : Type 0 where
   pub a : PointOn (e .a) (f .a)
   pub b : PointOn (e .b) (f .b)
-
--- two lists of one length, related member by member
-pub data Each {A B : Type 0} (R : A → B → Type 0) : List A → List B → Type 0 where
-  none : Each R [] []
-  more : {x : A} {y : B} {xs : List A} {ys : List B} → R x y → Each R xs ys → Each R (x ∷ xs) (y ∷ ys)
 
 abbrev pub EdgesOn : List Edge → List EdgeZ → Type 0
 EdgesOn es fs = Each EdgeOn es fs

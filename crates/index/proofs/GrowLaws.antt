@@ -11,42 +11,38 @@ use lib.Seq.{length-take-le, take-at, drop-at, drop-append-add, drop-drop, sets}
 use lib.Ieee.{Float}
 use borrow.Author.Tests.{le-leb, ltb-false, eqb-true}
 use Rattle.boundary.specs.declared.Bounds.{Bounds}
-use Rattle.sorts.specs.Sort.{sort, Each, Sorted}
+use Rattle.lists.specs.Lists.{Every, run, any, atFront, zeros}
+use Rattle.sorts.specs.Sort.{sort, Sorted}
 use Rattle.sorts.proofs.PartLaws.{sort-sorted}
-use Rattle.boundary.specs.Folds.{run, any}
 use Rattle.accept.specs.declared.Refusal.the-variants.{TooMany, BadBox}
 use Rattle.accept.specs.declared.Test.the-variants.{Passed}
 use Rattle.number.specs.Exact.{zeroᶠ}
-use Rattle.accept.specs.Lists.{atFront, zeros}
 use Rattle.accept.proofs.TestLaws.{passes, passes-else, room-passed}
 use Rattle.entries.specs.Entries.{boxCount, boxNumbers, boxesOf, wideAt, centreOf}
 use Rattle.splits.specs.Tree.{Tree, leaf, hullOf, treeIn, indexOf, itemsOf}
 use Rattle.nodes.specs.Layout.{extra, nodeOf, below, nodesOf, cornersOf, linksOf, Grown}
 use Rattle.boundary.specs.Boxes.{boxFits}
 use Rattle.index.specs.Answers.{boxesTested, shortIndex, buildTested, Stored, Accepted, Cleared}
-use Rattle.entries.proofs.StoreLaws.{length-run, sets-front, flat-length}
+use Rattle.lists.proofs.StoreLaws.{sets-front, flat-length}
+use Rattle.lists.proofs.RunLaws.{length-run}
 use Rattle.entries.proofs.EntryLaws.{wide-held, centres-held}
 use Rattle.nodes.proofs.TreeLaws.{tree-leaf, length-items, nodes-suffice}
 use Rattle.nodes.proofs.LayoutLaws.{length-below, placed-front}
+use Rattle.lists.proofs.FrontLaws.{front-front}
+use Rattle.lists.proofs.FoldLaws.{or-none}
 
 -- the first k of a list that begins with F
 pub front-of : {A : Type 0} (s₀ s F : List A) (k : ℕ) → s ≡ sets s₀ 0 F → length F ≡ k → k ≤ length s₀ → take (k - 0) (drop 0 s) ≡ F
 front-of s₀ s F k e l h = rw (e, sets-front s₀ F (omega arith), sub-zero k) (take-at F (drop (length F) s₀) k l)
 
 -- the front is written twice: the longer list stays
-pub front-front : {A : Type 0} (zs xs s : List A) → length xs ≤ length zs → length zs ≤ length s → atFront zs (atFront xs s) ≡ atFront zs s
-unfolding atFront
-front-front zs xs s h l =
-    let k : length zs ≡ length xs + (length zs - length xs) = omega arith in
-    ap (λ (r : List _). zs ++ r) (ap (λ (n : ℕ). drop n (xs ++ drop (length xs) s)) k ∙ drop-append-add xs (drop (length xs) s) (length zs - length xs) ∙ drop-drop (length zs - length xs) (length xs) s ∙ ap (λ (n : ℕ). drop n s) (sym k))
-
 -- numbers from j on ascend
 pub run-ascends : (j k : ℕ) → Sorted leb (run (λ i. i) j k)
-unfolding Sorted Each run
+unfolding Sorted Every run
 run-ascends j zero = tt
 run-ascends j (suc k) = (above (suc j) k (omega arith), run-ascends (suc j) k)
   where
-    above : (i k : ℕ) → j ≤ i → Each (λ y. leb j y ≡ true) (run (λ i. i) i k)
+    above : (i k : ℕ) → j ≤ i → Every (λ y. leb j y ≡ true) (run (λ i. i) i k)
     above i zero h = tt
     above i (suc k) h = (le-leb j i h, above (suc i) k (omega arith))
 
@@ -125,10 +121,6 @@ leaf-stored v C C′ L L′ is₀ is₁ h c l i ec el ei =
     (leaf-put (hullOf (wideAt v) N) (sort leb N) C C′ L L′ is₀ (is₁ ++ drop (boxCount v) is₀) (omega arith) (omega arith) ec (rw k el) (rw (k, f)))
 
 -- ---- what a list that passes the tests has
-pub or-none : (a b : Bool) → (a || b) ≡ false → (a ≡ false) × (b ≡ false)
-or-none true b e = absurd (true≢false e)
-or-none false b e = (refl, e)
-
 -- what tests 4 and 11 say of a list that passes them
 record Fit (v : List Float) : Type 0 where
   size : length v ≤ 4096

@@ -14,15 +14,15 @@ use Rattle.signs.specs.Signs.{absOf, maxOf}
 use Rattle.number.proofs.OrderLaws.{finite-between, max-one-of}
 use Rattle.number.proofs.Values.{add-not-nan, sub-not-nan, mul-not-nan, abs-finite}
 use Rattle.boundary.specs.declared.Bounds.{Bounds}
-use Rattle.number.specs.Exact.{Held}
+use Rattle.number.specs.Exact.{Held, one}
 use Rattle.boundary.specs.Boxes.{FiniteBox, Around, limit, inField, boxFits, hull, nowhere, nano, scaleOf, widenedOf}
-use Rattle.boundary.specs.Folds.{fold}
-use Rattle.boundary.specs.Line.{one}
-use Rattle.boundary.proofs.AlongLaws.{one-of}
+use Rattle.lists.specs.Lists.{fold, times, In}
+use Rattle.number.proofs.Basics.{one-of}
 use Rattle.boundary.proofs.AroundLaws.{Number, NumberBox, around-self, around-through, hull-number, hull-around, hull-within, around-nowhere, nowhere-number}
-use Rattle.sorts.specs.Sort.{sort, times, In}
+use Rattle.sorts.specs.Sort.{sort}
 use Rattle.sorts.proofs.SortLaws.{length-sort, times-sort}
 use Rattle.splits.specs.Tree.{hullOf}
+use Rattle.lists.proofs.MemberLaws.{in-cons, in-first, in-rest}
 
 -- ---- widened boxes
 field-finite : (x : Float) → T (inField x) → T (finite x)
@@ -54,23 +54,6 @@ fits-wide b h =
     }
 
 -- ---- the box around the items' boxes
--- what holds of the first and of each of the rest holds of each
-pub in-cons : (P : ℕ → Type 0) (x : ℕ) (xs : List ℕ) → P x → ((i : ℕ) → In i xs → P i) → (i : ℕ) → In i (x ∷ xs) → P i
-unfolding times
-in-cons P x xs p ps i h = go (eqb x i) refl h
-  where
-    go : (b : Bool) → eqb x i ≡ b → 0 < cond b 1 0 + times i xs → P i
-    go true e l = subst P (eqb-true x i e) p
-    go false e l = ps i (omega arith)
-
-pub in-first : (x : ℕ) (xs : List ℕ) → In x (x ∷ xs)
-unfolding times
-in-first x xs = rw (eq-eqb x x refl) (omega arith)
-
-pub in-rest : (i x : ℕ) (xs : List ℕ) → In i xs → In i (x ∷ xs)
-unfolding times
-in-rest i x xs h = omega arith
-
 module _ (W : ℕ → Bounds) where
   abbrev pub step : Bounds → ℕ → Bounds
   step b i = hull b (W i)

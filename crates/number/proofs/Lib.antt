@@ -11,6 +11,8 @@ pub mod ExactLaws
 pub mod Compare
 -- The order of all floats, infinities included.
 pub mod OrderLaws
+-- The larger of a number and a magnitude, and the clamp to 0..1, by comparisons.
+pub mod ChoiceLaws
 -- Finite values: magnitudes, sizes of rounded results.
 pub mod Values
 -- Sums, differences, products and quotients keep the order of floats.
@@ -29,6 +31,8 @@ pub mod HypotZero
 pub mod HypotAxis
 -- The relative error.
 pub mod HypotError
+-- How large it is.
+pub mod HypotRange
 -- Which of two is less, by the sums of the squares.
 pub mod HypotClear
 -- ---- what those rest on

@@ -6,16 +6,17 @@ use Prim.Native.Nat.{ℕ, suc, _+_, _-_, _*_, _^_, _≤_}
 use native.Mathlib.Omega.{arith}
 use lib.Dec.{T}
 use lib.IntN.{ℤ, pos, negsuc, _*ℤ_}
-use lib.Ieee.{Float, nan, inf, fin, up, lt, eq, le, neg, isNan}
+use lib.Ieee.{Float, nan, inf, fin, up, down, lt, eq, le, neg, isNan}
 use lib.Ieee.Bits.{is-true}
 use lib.Ieee.Scale.{finite}
-use lib.Signed.{clashℤ}
+use lib.Signed.{clashℤ, ltZ}
+use borrow.Author.Tests.{ltb-true}
 use Rattle.algebra.specs.Order.{_≦_, _≺_, ≤ℤ-trans, ≤ℤ-of-eq}
 use Rattle.algebra.specs.Sign.{signed}
 use Rattle.number.specs.Exact.{Is, zeroᶠ}
-use Rattle.number.specs.Root.{plus-fin}
+use Rattle.number.specs.Root.{Plus, plus-inf, plus-fin}
 use Rattle.signs.specs.Signs.{signBit, absOf, before, maxOf, clampOf}
-use Rattle.number.proofs.Basics.{or-l, or-r, or-split}
+use Rattle.number.proofs.Basics.{or-l, or-r, or-split, one-of}
 use Rattle.number.proofs.Operations.{equation→is, rescale}
 use Rattle.number.proofs.Compare.{lt-is, le-is, eq→, not-lt, le-of-signs, le-neg}
 use Rattle.number.proofs.Tests.{le-not-nan}
@@ -241,6 +242,27 @@ level-abs x y e =
     go n true = le-through (neg y) (neg x) (absOf x) (le-neg x y (level-le x y e)) (neg-le-abs x n)
     go n false = le-through y x (absOf x) (level-ge x y e) (le-abs x n)
 
+-- what has a magnitude of at most a finite number is finite
+pub abs-bounds : (x h : Float) → T (finite h) → T (le (absOf x) h) → T (finite x)
+unfolding absOf le lt eq
+abs-bounds nan h F l = absurd l
+abs-bounds (inf s) nan F l = absurd l
+abs-bounds (inf s) (inf t) F l = absurd F
+abs-bounds (inf s) (fin t n e) F l = absurd l
+abs-bounds (fin s m e) h F l = tt
+
+-- the opposite has the same magnitude, and what has no sign is its own
+pub abs-neg : (x : Float) → absOf (neg x) ≡ absOf x
+unfolding absOf neg
+abs-neg nan = refl
+abs-neg (inf s) = refl
+abs-neg (fin s m e) = refl
+
+pub abs-plus : {x : Float} → Plus x → absOf x ≡ x
+unfolding absOf
+abs-plus plus-inf = refl
+abs-plus (plus-fin m e) = refl
+
 -- ---- the maximum
 
 -- it is one of the two
@@ -286,3 +308,35 @@ clamp-inside x lo hi n h l = go (lt x lo) refl (lt hi x) refl
     go true e b f = (le-self lo l, h)
     go false e true f = (h, le-self hi (right-not-nan lo hi h))
     go false e false f = (not-below x lo n l e, not-below hi x (right-not-nan lo hi h) n f)
+
+-- it is one of the three
+pub clamp-one-of : (P : Float → Type 0) {x lo hi : Float} → P x → P lo → P hi → P (clampOf x lo hi)
+unfolding clampOf
+clamp-one-of P {x} {lo} {hi} p l h = one-of P (lt x lo) l (one-of P (lt hi x) h p)
+
+-- of exact values it is the clamp of whole numbers
+pub clamp-is : {k : ℕ} {t lo hi : Float} {x l h : ℤ} → Is k t x → Is k lo l → Is k hi h → Is k (clampOf t lo hi) (cond (ltZ x l) l (cond (ltZ h x) h x))
+unfolding clampOf
+clamp-is {k} {t} {lo} {hi} {x} {l} {h} T L H = rw (lt-is T L, lt-is H T) (go (ltZ x l) (ltZ h x))
+  where
+    go : (b c : Bool) → Is k (cond b lo (cond c hi t)) (cond b l (cond c h x))
+    go true c = L
+    go false true = H
+    go false false = T
+
+-- ---- the sign bit of what is above zero, and of what is below
+pub above-sign : (x : Float) → lt zeroᶠ x ≡ true → signBit x ≡ false
+unfolding lt signBit
+above-sign nan h = refl
+above-sign (inf true) h = absurd (subst T (sym h) tt)
+above-sign (inf false) h = refl
+above-sign (fin true m e) h = absurd (subst T (sym h) tt)
+above-sign (fin false m e) h = refl
+
+pub under-sign : (x : Float) → lt x zeroᶠ ≡ true → signBit x ≡ true
+unfolding lt signBit
+under-sign nan h = absurd (subst T (sym h) tt)
+under-sign (inf true) h = refl
+under-sign (inf false) h = absurd (subst T (sym h) tt)
+under-sign (fin true m e) h = refl
+under-sign (fin false m e) h = absurd (omega (arith, ltb-true (m * up e * 1) (0 * 1 * down e) h))

@@ -27,9 +27,12 @@ pub record Held (x : Float) : Type 0 where
   pub fits : T (fits binary64 x)
   pub finite : T (finite x)
 
--- +0
+-- +0 and 1
 abbrev pub zeroᶠ : Float
 zeroᶠ = fin false 0 (pos 0)
+
+abbrev pub one : Float
+one = fin false 1 (pos 0)
 
 -- whether two whole numbers are equal
 abbrev pub eqZ : ℤ → ℤ → Bool

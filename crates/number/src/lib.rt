@@ -1,2 +1,3 @@
 // The number layer: what the geometry computes with besides the operators on floats.
+pub mod choices;
 pub mod root;

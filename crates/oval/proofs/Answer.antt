@@ -25,7 +25,8 @@ use Rattle.boundary.specs.Boxes.{inField, pointInField}
 use Rattle.oval.specs.Ellipse.{axisFits, offsetFits, ellipseFits, ellipseTested, ellipseAnswer}
 use Rattle.boundary.specs.Line.{lessPoint}
 use Rattle.oval.specs.Oval.{Offset, FitsPoint, OvalAnswer}
-use Rattle.oval.proofs.Ranges.{Ranged, Bounded, power, tested-range, sum-range, difference-range, abs-range, hypot-range}
+use Rattle.number.proofs.HypotRange.{power, doubled-94}
+use Rattle.oval.proofs.Ranges.{Ranged, Bounded, tested-range, sum-range, difference-range, abs-range, hypot-range}
 use Rattle.oval.proofs.Nearest.{Found, ellipse-found}
 
 -- ---- what the tests say
@@ -59,8 +60,8 @@ unfolding sub le fits
 apart-range P Q = difference-range P Q tt
 
 length-range : {x y : Float} → Bounded 94 x → Bounded 94 y → Ranged zeroᶠ (power 95) (hypotOf x y)
-unfolding hypotOf absOf neg le fits
-length-range X Y = hypot-range zeroᶠ zeroᶠ refl refl X Y tt tt tt
+unfolding neg le fits
+length-range X Y = hypot-range 94 doubled-94 tt X Y tt tt tt tt
 
 module _ {c p : Point} {a b : Float} (Cx : InField (c .x)) (Cy : InField (c .y)) (Px : InField (p .x)) (Py : InField (p .y)) (F : Found (lessPoint p c) (ellipseNearest a b (lessPoint p c))) where
   near-answer : OvalAnswer c a b p (record { d = ellipseNear c a b p .d; v = ellipseNear c a b p .q })

@@ -3,16 +3,17 @@ use mathlib.Core.Path.{_≡_, refl}
 use mathlib.Core.Logic.{inl, inr, ⊎-elim}
 use mathlib.Core.Bool.{Bool, true, false, cond}
 use lib.Dec.{T}
-use lib.Ieee.{Float, nan, inf, fin, neg, le, lt, eq, fits}
+use lib.Ieee.{Float, neg, le, lt, eq, fits}
 use Rattle.number.specs.Exact.{Held, zeroᶠ}
-use Rattle.signs.specs.Signs.{signBit, absOf, copysignOf}
+use Rattle.signs.specs.Signs.{absOf}
+use Rattle.signs.proofs.SignLaws.{copysign-sign}
 use Rattle.number.proofs.Basics.{or-split}
-use Rattle.number.proofs.OrderLaws.{below-le, not-below}
+use Rattle.number.proofs.OrderLaws.{below-le, not-below, abs-bounds}
 use Rattle.number.proofs.Values.{zero-held, abs-held, held-not-nan}
 use Rattle.boundary.specs.declared.Point.{Point}
 use Rattle.pieces.specs.Ellipse.{longNearest, ellipseNearest, swapped}
 use Rattle.oval.specs.Ellipse.{leastOffset}
-use Rattle.oval.specs.Oval.{Axis, Offset, InQuadrant, OvalPoint}
+use Rattle.oval.specs.Oval.{Axis, mostOffset, Offset, InQuadrant, OvalPoint}
 use Rattle.oval.proofs.Ranges.{Bounded, tested-range, equal-range, copysign-range, abs-range}
 use Rattle.oval.proofs.Quadrant.{AxisRange, Stands, quadrant-range}
 
@@ -28,10 +29,7 @@ unfolding fits
 axis-range {a} A = tested-range a (A .fits) (A .test) tt
 
 offset-held : {d : Float} → Offset d → Held d
-unfolding absOf le
-offset-held {d = nan} D = absurd (D .most)
-offset-held {d = inf s} D = absurd (D .most)
-offset-held {d = fin s m e} D = record { fits = D .fits; finite = tt }
+offset-held {d} D = record { fits = D .fits; finite = abs-bounds d mostOffset tt (D .most) }
 
 offset-stands : {d : Float} → Offset d → Stands (absOf d)
 unfolding neg le fits
@@ -42,12 +40,6 @@ offset-stands {d} D =
     (or-split (eq d zeroᶠ) (le leastOffset (absOf d)) (D .least))
 
 -- ---- the signs restored
-copysign-sign : {x : Float} (y : Float) → Held x → signBit (copysignOf x y) ≡ signBit y
-unfolding copysignOf
-copysign-sign {x = nan} y X = absurd (X .finite)
-copysign-sign {x = inf s} y X = absurd (X .finite)
-copysign-sign {x = fin s m e} y X = refl
-
 module _ {a b : Float} (A : AxisRange a) (B : AxisRange b) {p : Point} (X : Offset (p .x)) (Y : Offset (p .y)) where
   long-found : T (le b a) → Found p (longNearest a b p)
   unfolding longNearest neg le fits
@@ -56,7 +48,7 @@ module _ {a b : Float} (A : AxisRange a) (B : AxisRange b) {p : Point} (X : Offs
       record {
         x = copysign-range (p .x) (Q .x) tt tt;
         y = copysign-range (p .y) (Q .y) tt tt;
-        quadrant = record { x = copysign-sign (p .x) (Q .x .held); y = copysign-sign (p .y) (Q .y .held) };
+        quadrant = record { x = copysign-sign _ (p .x) (held-not-nan (Q .x .held)); y = copysign-sign _ (p .y) (held-not-nan (Q .y .held)) };
       }
 
 found-swapped : {p q : Point} → Found (swapped p) q → Found p (swapped q)

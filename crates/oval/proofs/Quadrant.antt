@@ -5,18 +5,19 @@ use mathlib.Core.Bool.{Bool, true, false, cond, _||_}
 use Prim.Native.Nat.{ℕ, zero, suc, _-_, _^_}
 use lib.Dec.{T}
 use lib.Ieee.{Float, fin, minus, binary64, add, sub, mul, div, neg, le, lt, eq, fits}
-use Rattle.number.specs.Exact.{zeroᶠ}
+use Rattle.number.specs.Exact.{zeroᶠ, one}
 use Rattle.number.specs.Root.{sqrtOf}
-use Rattle.number.specs.Hypot.{hypotOf}
+use Rattle.number.specs.Hypot.{hypotOf, squareLeast, squareEnd}
 use Rattle.signs.specs.Signs.{absOf, maxOf}
-use Rattle.number.proofs.OrderLaws.{below-not-le, below-through}
+use Rattle.number.proofs.OrderLaws.{below-not-le, below-through, through-below, le-through}
+use Rattle.number.proofs.Values.{held-not-nan}
+use Rattle.number.proofs.HypotRange.{power, doubled-71, hypot-at-least}
 use Rattle.number.proofs.Monotone.{one-le-quotient}
-use Rattle.boundary.specs.Line.{one}
 use Rattle.boundary.specs.declared.Point.{Point}
 use Rattle.pieces.specs.declared.Curve.{Curve}
 use Rattle.boundary.specs.Line.{half, middle}
 use Rattle.pieces.specs.Ellipse.{square, excess, curveAt, halve, halvedOf, upperEnd, curveOf, rootIn, footAt, offAxes, onAxis, quadrantNearest}
-use Rattle.oval.proofs.Ranges.{Ranged, Bounded, power, part, number-range, wider, sum-range, difference-range, product-range, multiple-range, quotient-range, root-range, hypot-range, max-zero-range, above-range, above-zero-range}
+use Rattle.oval.proofs.Ranges.{Ranged, Bounded, part, number-range, wider, sum-range, difference-range, product-range, multiple-range, quotient-range, root-range, abs-range, hypot-range, max-zero-range, above-range, above-zero-range}
 
 -- a semi-axis
 abbrev pub AxisRange : Float → Type 0
@@ -63,11 +64,18 @@ halve-range c (suc n) {s} {s0} {s1} S S0 S1 =
     choose false false false M U W = M
 
 upper-end-range : (g : Float) {n0 z1 : Float} → Ranged (part 30) (power 71) n0 → OverAxis z1 → RootRange (upperEnd g n0 z1)
-unfolding upperEnd sub absOf le fits
+unfolding upperEnd sub neg le fits
 upper-end-range g {n0} {z1} N Z = go (lt g zeroᶠ)
   where
+    -- z1's own magnitude is 2 ^ -30 at least, and the length is no less
+    side : Ranged (part 30) (power 31) (absOf z1)
+    side = abs-range Z tt
+
     far : Ranged (part 30) (power 72) (hypotOf n0 z1)
-    far = hypot-range zeroᶠ (part 30) refl refl N Z tt tt tt
+    far =
+        let whole = hypot-range 71 doubled-71 tt N Z tt tt tt tt in
+        let least = hypot-at-least n0 z1 (held-not-nan (N .held)) (Z .held .fits) (le-through squareLeast (part 30) (absOf z1) tt (side .low)) (through-below (absOf z1) (power 31) squareEnd (side .high) (unfold lt in tt)) in
+        record { from = side .from; to = whole .to; held = whole .held; low = le-through (part 30) (absOf z1) (hypotOf n0 z1) (side .low) least; high = whole .high }
 
     go : (b : Bool) → RootRange (cond b zeroᶠ (sub binary64 (hypotOf n0 z1) one))
     go true = wider (number-range zeroᶠ tt) tt
@@ -97,7 +105,7 @@ foot-range {r0} {y0} {y1} {s} R Y0 Y1 S =
     record { x = quotient-range n dx tt tt tt; y = quotient-range Y1 dy tt tt tt }
 
 off-axes-range : {a b y0 y1 : Float} → AxisRange a → AxisRange b → T (le b a) → OffAxis y0 → OffAxis y1 → FirstQuadrant (offAxes a b y0 y1)
-unfolding offAxes div le fits
+unfolding offAxes mul div le fits
 off-axes-range {a} {b} {y0} {y1} A B l Y0 Y1 = go (eq g zeroᶠ)
   where
     z0 : Float
@@ -170,7 +178,7 @@ on-axis-range {a} {b} {y0} A B Y = go (lt (mul binary64 a y0) denom) (λ t. axis
         let xa2 : Ranged zeroᶠ (power 162) (square (div binary64 x a)) = product-range xa xa tt tt tt in
         let rest : Ranged (neg (power 162)) one (sub binary64 one (square (div binary64 x a))) = difference-range (number-range one tt) xa2 tt in
         let most : Ranged zeroᶠ one (maxOf (sub binary64 one (square (div binary64 x a))) zeroᶠ) = max-zero-range rest tt tt in
-        root-range most tt tt
+        root-range most
 
     go : (c : Bool) → (T c → Ranged zeroᶠ (power 71) x) → FirstQuadrant (cond c (record { x = x; y = mul binary64 b height }) (record { x = a; y = zeroᶠ }))
     go true f = let X = f tt in record { x = wider X tt; y = product-range B (height-range X) tt tt tt }

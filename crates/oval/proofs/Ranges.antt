@@ -3,7 +3,7 @@
 use mathlib.Core.Path.{_≡_, refl, sym, subst}
 use mathlib.Core.Logic.{⊎-elim}
 use mathlib.Core.Bool.{Bool, true, false, _&&_, _||_, cond}
-use Prim.Native.Nat.{ℕ}
+use Prim.Native.Nat.{ℕ, suc}
 use lib.Dec.{T}
 use lib.IntN.{pos}
 use lib.Ieee.{Float, fin, binary64, unlike, minus, add, sub, mul, div, neg, le, lt, eq, fits, isNan}
@@ -11,25 +11,23 @@ use lib.Ieee.Bits.{is-true}
 use lib.Ieee.Fits.{and-l, and-r, add-fits, sub-fits, mul-fits, div-fits}
 use lib.Ieee.Scale.{finite}
 use Rattle.algebra.specs.Order.{_≦_, ord, ≤ℤ-of-eq}
-use Rattle.number.specs.Exact.{Is, Held, zeroᶠ}
+use Rattle.number.specs.Exact.{Is, Held, zeroᶠ, one}
 use Rattle.number.specs.Root.{sqrtOf}
 use Rattle.number.specs.Hypot.{hypotOf}
-use Rattle.signs.specs.Signs.{signBit, absOf, copysignOf, maxOf, before}
+use Rattle.signs.specs.Signs.{signBit, absOf, copysignOf, maxOf}
 use Rattle.number.proofs.Basics.{or-l, or-r, or-split}
 use Rattle.number.proofs.Operations.{zero-is, finite-is, equation→is}
 use Rattle.number.proofs.Compare.{eq→, le-neg}
-use Rattle.signs.proofs.SignLaws.{with-sign, abs-negates}
-use Rattle.number.proofs.OrderLaws.{is-order, order-is, is-below, le-self, below-le, le-through, below-through, finite-between, le-abs, abs-nonneg}
+use Rattle.signs.proofs.SignLaws.{copysign-negates, abs-negates}
+use Rattle.number.proofs.OrderLaws.{is-order, order-is, is-below, le-self, below-le, le-through, below-through, finite-between, le-abs, abs-nonneg, max-one-of, le-max-right}
 use Rattle.number.proofs.Values.{zero-held, neg-held, abs-held, held-not-nan}
 use Rattle.number.proofs.Monotone.{add-mono, sub-mono, mul-mono-left, mul-mono-both, div-mono-both}
 use Rattle.number.proofs.CloseRoot.{sqrt-fits}
-use Rattle.number.proofs.SqrtLaws.{sqrt-mono-all}
-use Rattle.number.proofs.HypotLaws.{hypot-fits, hypot-mono}
+use Rattle.number.proofs.SqrtLaws.{sqrt-mono-all, sqrt-nonneg}
+use Rattle.number.proofs.HypotLaws.{hypot-fits, hypot-nonneg}
+use Rattle.number.proofs.HypotRange.{power, Doubled, hypot-at-most, sqrt-of-one}
 
--- 2 ^ k and 2 ^ -k
-abbrev pub power : ℕ → Float
-power k = fin false 1 (pos k)
-
+-- 2 ^ -k
 abbrev pub part : ℕ → Float
 part k = fin false 1 (minus 0 k)
 
@@ -133,15 +131,23 @@ quotient-range {l = l} {h = h} {x = x} {k = k} {m = m} {y = y} X Y a b =
     (div-mono-both (X .from) (Y .to) (X .held) (Y .held) (from-zero X a) (below-through zeroᶠ k y b (Y .low)) (X .low) (Y .high))
     (div-mono-both (X .held) (Y .held) (X .to) (Y .from) (to-zero X a) b (X .high) (Y .low))
 
-pub root-range : {L H l h x : Float} → Ranged l h x → T (le zeroᶠ l) → T (inside L H (sqrtOf l) (sqrtOf h)) → Ranged L H (sqrtOf x)
-root-range {l = l} {h = h} {x = x} X a =
-    ranged-by (sqrtOf l) (sqrtOf h) (sqrtOf x) (sqrt-fits l (X .from .fits)) (sqrt-fits h (X .to .fits)) (sqrt-fits x (X .held .fits))
-    (sqrt-mono-all l x a (from-zero X a) (X .low)) (sqrt-mono-all x h (from-zero X a) (to-zero X a) (X .high))
+-- the root of a number from 0 to 1 is one
+pub root-range : {x : Float} → Ranged zeroᶠ one x → Ranged zeroᶠ one (sqrtOf x)
+unfolding le
+root-range {x} X =
+    let low = sqrt-nonneg x (X .low) in
+    let high = subst (λ (v : Float). T (le (sqrtOf x) v)) sqrt-of-one (sqrt-mono-all x one (X .low) tt (X .high)) in
+    record {
+      from = X .from;
+      to = X .to;
+      held = record { fits = sqrt-fits x (X .held .fits); finite = finite-between zeroᶠ (sqrtOf x) one tt tt low high };
+      low = low;
+      high = high;
+    }
 
 -- ---- signs
 pub copysign-range : {L H l h x : Float} (y : Float) → Ranged l h x → T (inside L H l h) → T (inside L H (neg h) (neg l)) → Ranged L H (copysignOf x y)
-unfolding copysignOf
-copysign-range {L} {H} {l} {h} {x} y X s t = subst (Ranged L H) (sym (with-sign (signBit y) x)) (go (unlike (signBit x) (signBit y)))
+copysign-range {L} {H} {l} {h} {x} y X s t = subst (Ranged L H) (sym (copysign-negates x y)) (go (unlike (signBit x) (signBit y)))
   where
     go : (b : Bool) → Ranged L H (cond b (neg x) x)
     go true = wider (record { from = neg-held (X .to); to = neg-held (X .from); held = neg-held (X .held); low = le-neg x h (X .high); high = le-neg l x (X .low) }) t
@@ -169,31 +175,32 @@ abs-range {L} {l} {h} {x} X t =
     high true m = le-through (neg x) (neg l) h (le-neg l x (X .low)) m
     high false m = X .high
 
--- ---- hypot, where the magnitudes are u and v at least
-pub hypot-range : {L H l h x k m y : Float} (u v : Float) → absOf u ≡ u → absOf v ≡ v → Ranged l h x → Ranged k m y → T (spans u l h) → T (spans v k m) → T (inside L H (hypotOf u v) (hypotOf h m)) → Ranged L H (hypotOf x y)
-hypot-range {h = h} {x = x} {m = m} {y = y} u v eu ev X Y s t =
-    let A : Ranged u h (absOf x) = abs-range X s in
-    let B : Ranged v m (absOf y) = abs-range Y t in
-    ranged-by (hypotOf u v) (hypotOf h m) (hypotOf x y) (hypot-fits u v) (hypot-fits h m) (hypot-fits x y)
-    (hypot-mono u v x y (rw eu (A .low)) (rw ev (B .low))) (hypot-mono x y h m (to A) (to B))
-  where
-    to : {u h x : Float} → Ranged u h x → T (le x (absOf h))
-    to {h = h} {x = x} A = le-through x h (absOf h) (A .high) (le-abs h (held-not-nan (A .to)))
+-- ---- hypot, where neither magnitude is above 2 ^ n
+pub hypot-range : {l h x k m y : Float} (n : ℕ) → Doubled n → T (inside zeroᶠ (power (suc n)) zeroᶠ (power (suc n))) → Ranged l h x → Ranged k m y → T (spans zeroᶠ l h) → T (spans zeroᶠ k m) → T (le h (power n)) → T (le m (power n))
+    → Ranged zeroᶠ (power (suc n)) (hypotOf x y)
+hypot-range {h = h} {x = x} {m = m} {y = y} n D t X Y s u H M =
+    let A : Ranged zeroᶠ h (absOf x) = abs-range X s in
+    let B : Ranged zeroᶠ m (absOf y) = abs-range Y u in
+    let low = hypot-nonneg x y (held-not-nan (X .held)) (held-not-nan (Y .held)) in
+    let high = hypot-at-most n x y D (le-through (absOf x) h (power n) (A .high) H) (le-through (absOf y) m (power n) (B .high) M) in
+    let ends = and-l (holds zeroᶠ && holds (power (suc n))) _ t in
+    let from = held-of zeroᶠ (and-l (holds zeroᶠ) (holds (power (suc n))) ends) in
+    let to = held-of (power (suc n)) (and-r (holds zeroᶠ) (holds (power (suc n))) ends) in
+    record {
+      from = from;
+      to = to;
+      held = record { fits = hypot-fits x y; finite = finite-between zeroᶠ (hypotOf x y) (power (suc n)) (from .finite) (to .finite) low high };
+      low = low;
+      high = high;
+    }
 
 -- ---- the greater of x and 0
 pub max-zero-range : {H l h x : Float} → Ranged l h x → T (inside zeroᶠ H zeroᶠ h) → T (inside zeroᶠ H zeroᶠ zeroᶠ) → Ranged zeroᶠ H (maxOf x zeroᶠ)
-unfolding maxOf le
-max-zero-range {H} {l} {h} {x} X t u =
-    go (isNan x) (before zeroᶠ x)
-    (λ b. ⊎-elim (or-l (lt zeroᶠ x) (eq zeroᶠ x)) (λ c. or-r (lt zeroᶠ x) (eq zeroᶠ x) (and-l (eq zeroᶠ x) false c)) (or-split (lt zeroᶠ x) (eq zeroᶠ x && false) b))
-  where
-    nought : Ranged zeroᶠ H zeroᶠ
-    nought = wider (record { from = zero-held; to = zero-held; held = zero-held; low = tt; high = tt }) u
-
-    go : (p q : Bool) → (T q → T (le zeroᶠ x)) → Ranged zeroᶠ H (cond p zeroᶠ (cond q x zeroᶠ))
-    go true q f = nought
-    go false true f = wider (record { from = zero-held; to = X .to; held = X .held; low = f tt; high = X .high }) t
-    go false false f = nought
+unfolding le
+max-zero-range {H} {x = x} X t u =
+    let own : T (le zeroᶠ x) → Ranged zeroᶠ H x = λ l. wider (record { from = zero-held; to = X .to; held = X .held; low = l; high = X .high }) t in
+    let nought : Ranged zeroᶠ H zeroᶠ = wider (record { from = zero-held; to = zero-held; held = zero-held; low = tt; high = tt }) u in
+    max-one-of (λ v. T (le zeroᶠ v) → Ranged zeroᶠ H v) {x = x} {y = zeroᶠ} own (λ _. nought) (le-max-right x zeroᶠ (unfold isNan in tt))
 
 -- ---- what is above a number of a range
 pub above-range : {l h x k m y : Float} → Ranged l h x → Ranged k m y → T (lt x y) → Ranged l m y

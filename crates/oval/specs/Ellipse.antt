@@ -31,7 +31,7 @@ abbrev pub leastOffset : Float
 leastOffset = fin false 1 (negsuc 19)
 
 unfoldable pub offsetFits : Float → Float → Bool
-unfolding sub eq le absOf
+unfolding sub eq le
 offsetFits c p = let d = sub binary64 p c in eq d zeroᶠ || le leastOffset (absOf d)
 
 unfoldable pub ellipseFits : Point → Float → Float → Point → Bool

@@ -2,14 +2,14 @@
 use mathlib.Core.Bool.{_||_, cond}
 use Prim.Native.Nat.{ℕ, zero, suc}
 use lib.Ieee.{Float, binary64, add, sub, mul, div, lt, eq}
-use Rattle.number.specs.Exact.{zeroᶠ}
+use Rattle.number.specs.Exact.{zeroᶠ, one}
 use Rattle.number.specs.Root.{sqrtOf}
 use Rattle.number.specs.Hypot.{hypotOf}
 use Rattle.signs.specs.Signs.{absOf, copysignOf, maxOf}
 use Rattle.boundary.specs.declared.Point.{Point}
 use Rattle.pieces.specs.declared.Curve.{Curve}
 use Rattle.boundary.specs.declared.Near.{Near}
-use Rattle.boundary.specs.Line.{one, middle}
+use Rattle.boundary.specs.Line.{middle}
 
 abbrev pub square : Float → Float
 square x = mul binary64 x x
@@ -40,7 +40,7 @@ halvedOf c s0 s1 = halve c 1100 s0 s0 s1
 -- ---- the first quadrant, with a ≥ b: the point nearest to (y0, y1)
 -- where the root is sought: from z1 - 1 to 0 for a point inside, and to √(n0² + z1²) - 1 for one outside
 unfoldable pub upperEnd : Float → Float → Float → Float
-unfolding lt hypotOf
+unfolding lt
 upperEnd g n0 z1 = cond (lt g zeroᶠ) zeroᶠ (sub binary64 (hypotOf n0 z1) one)
 
 unfoldable pub curveOf : Float → Float → Float → Float → Curve
@@ -66,7 +66,7 @@ offAxes a b y0 y1 =
 
 -- a point on the longer axis
 unfoldable pub onAxis : Float → Float → Float → Point
-unfolding lt maxOf sqrtOf
+unfolding lt
 onAxis a b y0 =
     let denom = sub binary64 (square a) (square b) in
     let x = div binary64 (mul binary64 (square a) y0) denom in
@@ -82,7 +82,7 @@ quadrantNearest a b y0 y1 = cond (lt zeroᶠ y1) (cond (lt zeroᶠ y0) (offAxes 
 -- ---- the whole ellipse (x/a)² + (y/b)² = 1
 -- where a ≥ b: in the first quadrant, the signs restored
 unfoldable pub longNearest : Float → Float → Point → Point
-unfolding quadrantNearest absOf copysignOf
+unfolding quadrantNearest
 longNearest a b p =
     let q = quadrantNearest a b (absOf (p .x)) (absOf (p .y)) in
     record { x = copysignOf (q .x) (p .x); y = copysignOf (q .y) (p .y) }
@@ -104,5 +104,5 @@ ellipseFoot c a b p =
 
 -- document 01 gives an ellipse no normal: it has (1, 0), as a line without length has
 unfoldable pub ellipseNear : Point → Float → Float → Point → Near
-unfolding ellipseFoot hypotOf
+unfolding ellipseFoot
 ellipseNear c a b p = let q = ellipseFoot c a b p in record { d = hypotOf (sub binary64 (p .x) (q .x)) (sub binary64 (p .y) (q .y)); q = q; n = record { x = one; y = zeroᶠ } }

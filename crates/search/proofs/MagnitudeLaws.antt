@@ -15,6 +15,7 @@ use lib.Ieee.Bits.{is-true}
 use lib.Ieee.Fits.{up-pos}
 use lib.Pow.{pow-pos}
 use Rattle.number.specs.Exact.{zeroᶠ}
+use Rattle.number.proofs.OrderLaws.{abs-neg, abs-plus}
 use Rattle.number.specs.Root.{Plus, plus-inf, plus-fin}
 use Rattle.signs.specs.Signs.{absOf}
 use Rattle.number.proofs.HypotLaws.{hypot-fits, hypot-plus}
@@ -25,7 +26,7 @@ use Rattle.boundary.specs.declared.Near.{Near}
 use Rattle.boundary.specs.declared.Distance.{Distance}
 use Rattle.boundary.specs.declared.Bounds.{Bounds}
 use Rattle.boundary.specs.Boxes.{PointOf, FieldValue, FieldPoint, FieldEdge, FieldBox, FiniteBox, Inside, Around, nowhere, spot, stretched, widenedOf, gapOf}
-use Rattle.boundary.specs.Folds.{run, fold}
+use Rattle.lists.specs.Lists.{run, fold}
 use Rattle.boundary.specs.Line.{footOf, lineNear}
 use Rattle.distance.specs.Nearest.{nearer, farAway, nearestOf, roundingOf, flipped, awayAlong, signedOf}
 use Rattle.boundary.specs.Outline.{count, after, vertexAt, edgeAt, vertices, edges}
@@ -61,15 +62,8 @@ not-above-zero (plus-fin (suc m) e) F h =
     absurd (omega arith)
 
 abs-flipped : {x : Float} → Plus x → (inside : Bool) → absOf (flipped inside x) ≡ x
-unfolding absOf neg
-abs-flipped plus-inf true = refl
-abs-flipped plus-inf false = refl
-abs-flipped (plus-fin m e) true = refl
-abs-flipped (plus-fin m e) false = refl
-
-abs-zero : absOf zeroᶠ ≡ zeroᶠ
-unfolding absOf
-abs-zero = refl
+abs-flipped {x} h true = abs-neg x ∙ abs-plus h
+abs-flipped h false = abs-plus h
 
 signed-magnitude : (c : Near) (p : Point) (inside : Bool) → Plus (c .d) → T (fits binary64 (c .d)) → absOf (signedOf c p inside .d) ≡ c .d
 unfolding signedOf
@@ -78,7 +72,7 @@ signed-magnitude c p inside h F = go (lt (roundingOf (c .q) p) (c .d)) (lt zero�
     go : (s t : Bool) → lt zeroᶠ (c .d) ≡ t → absOf (cond {A = Distance} s (record { d = flipped inside (c .d); v = record { x = awayAlong inside (p .x) (c .q .x) (c .d); y = awayAlong inside (p .y) (c .q .y) (c .d) } }) (cond t (record { d = flipped inside (c .d); v = c .n }) (record { d = zeroᶠ; v = c .n })) .d) ≡ c .d
     go true t e = abs-flipped h inside
     go false true e = abs-flipped h inside
-    go false false e = abs-zero ∙ not-above-zero h F e
+    go false false e = abs-plus (plus-fin 0 (pos 0)) ∙ not-above-zero h F e
 
 -- ---- the distance of an edge
 edge-length : {e : Edge} {p : Point} → FieldEdge e → FieldPoint p → Length (lineNear e p .d)

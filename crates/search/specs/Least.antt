@@ -5,7 +5,7 @@ use Prim.Native.Nat.{ℕ, _-_}
 use lib.Ieee.{Float, lt}
 use Rattle.signs.specs.Signs.{absOf}
 use Rattle.boundary.specs.declared.Point.{Point}
-use Rattle.boundary.specs.Folds.{run, fold}
+use Rattle.lists.specs.Lists.{run, fold}
 use Rattle.boundary.specs.Outline.{edges}
 use Rattle.distance.specs.Nearest.{nearestOf, signedOf}
 use Rattle.geometry.specs.Polygon.{containsOf}
@@ -14,7 +14,7 @@ use Rattle.search.specs.declared.Best.{Best}
 
 -- the magnitude of the outline's distance, as computed
 unfoldable pub magnitudeOf : List Float → Point → Float
-unfolding absOf signedOf nearestOf edges containsOf
+unfolding signedOf nearestOf edges containsOf
 magnitudeOf o p = absOf (signedOf (nearestOf (edges o) p) p (containsOf (edges o) p) .d)
 
 -- that of outline k of a set

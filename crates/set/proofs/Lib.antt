@@ -1,7 +1,5 @@
 -- Laws of sets.
 
--- Whether some member passes a test: over two lists, and where no member does.
-pub mod AnyLaws
 -- Tests 5 to 9 in one pass.
 pub mod OnePassLaws
 -- The box of an outline's vertices, of the field.

@@ -5,7 +5,7 @@ use Prim.Native.Nat.{ℕ, zero, suc, _+_, _*_, _/_, _%_, _^_}
 use lib.Dec.{T, leb, eqb, eqb-refl}
 use lib.Ieee.{Float, nan, inf, fin, binary64, up, down, unlike, neg, ne, isNan, fits, odd, ofFields, ofBits, toBits}
 use lib.Ieee.Bits.{ofBits-toBits, is-true}
-use Rattle.signs.specs.Signs.{signBit, withSign, absOf}
+use Rattle.signs.specs.Signs.{signBit, withSign, absOf, copysignOf}
 
 -- a float differs from itself exactly where it is a NaN
 pub differs-is-nan : (x : Float) → ne x x ≡ isNan x
@@ -66,3 +66,14 @@ unlike-false false = refl
 pub abs-negates : (x : Float) → absOf x ≡ cond (signBit x) (neg x) x
 unfolding absOf
 abs-negates x = with-sign false x ∙ ap (λ (b : Bool). cond b (neg x) x) (unlike-false (signBit x))
+
+pub copysign-negates : (x y : Float) → copysignOf x y ≡ cond (unlike (signBit x) (signBit y)) (neg x) x
+unfolding copysignOf
+copysign-negates x y = with-sign (signBit y) x
+
+-- the sign that it is given
+pub copysign-sign : (x y : Float) → T (not (isNan x)) → signBit (copysignOf x y) ≡ signBit y
+unfolding copysignOf isNan
+copysign-sign nan y n = absurd n
+copysign-sign (inf s) y n = refl
+copysign-sign (fin s m e) y n = refl

@@ -10,7 +10,7 @@ use lib.Ieee.Bits.{is-true}
 use borrow.Author.Tests.{le-leb, leb-true, leb-false, ltb-true}
 use Rattle.number.specs.Exact.{zeroᶠ}
 use Rattle.signs.specs.Signs.{signBit}
-use Rattle.number.proofs.OrderLaws.{le-not-below, le-through, not-below, below-le, level-le, below-through}
+use Rattle.number.proofs.OrderLaws.{le-not-below, le-through, not-below, below-le, level-le, below-through, above-sign, under-sign}
 use Rattle.sorts.specs.Keys.{totalLess, goesBy, goes, ahead}
 
 -- ---- of floats that are no NaN
@@ -198,22 +198,6 @@ unfolding goesBy
 goes-more x y a b e = rw (less-asym y x (less-of y x e), less-of y x e)
 
 -- ---- a pivot that is the number 0 with a key other than zero: before it goes just what has a lesser key
-pub above-sign : (x : Float) → lt zeroᶠ x ≡ true → signBit x ≡ false
-unfolding lt signBit
-above-sign nan h = refl
-above-sign (inf true) h = absurd (false≢true h)
-above-sign (inf false) h = refl
-above-sign (fin true m e) h = absurd (false≢true h)
-above-sign (fin false m e) h = refl
-
-under-sign : (x : Float) → lt x zeroᶠ ≡ true → signBit x ≡ true
-unfolding lt signBit
-under-sign nan h = absurd (false≢true h)
-under-sign (inf true) h = refl
-under-sign (inf false) h = absurd (false≢true h)
-under-sign (fin true m e) h = refl
-under-sign (fin false m e) h = absurd (omega (arith, ltb-true (m * up e * 1) (0 * 1 * down e) h))
-
 unequal-number : (v : Float) → (lt v zeroᶠ || lt zeroᶠ v) ≡ true → Number v
 unfolding lt isNan
 unequal-number nan h = absurd (false≢true h)

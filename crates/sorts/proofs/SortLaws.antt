@@ -6,7 +6,8 @@ use Prim.Native.Nat.{ℕ, suc, _+_}
 use native.Mathlib.Omega.{arith}
 use lib.Dec.{leb, eqb}
 use lib.ListN.{length, take, drop, take-append-drop}
-use Rattle.sorts.specs.Sort.{insert, sort, times}
+use Rattle.lists.specs.Lists.{times}
+use Rattle.sorts.specs.Sort.{insert, sort}
 use Rattle.sorts.specs.Keys.{totalLess, goesBy, goes, keyIn}
 
 -- with no keys the order is by number
@@ -42,11 +43,3 @@ module _ (le : ℕ → ℕ → Bool) where
   unfolding sort times
   times-sort i [] = refl
   times-sort i (x ∷ xs) = times-insert i x (sort le xs) ∙ ap (λ (n : ℕ). cond (eqb x i) 1 0 + n) (times-sort i xs)
-
-pub times-append : (i : ℕ) (xs ys : List ℕ) → times i (xs ++ ys) ≡ times i xs + times i ys
-unfolding times
-times-append i [] ys = omega arith
-times-append i (x ∷ xs) ys = let e = times-append i xs ys in omega arith
-
-pub times-parts : (i m : ℕ) (xs : List ℕ) → times i (take m xs) + times i (drop m xs) ≡ times i xs
-times-parts i m xs = let e = times-append i (take m xs) (drop m xs) in let f = ap (times i) (take-append-drop m xs) in omega arith

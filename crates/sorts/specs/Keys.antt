@@ -9,7 +9,7 @@ use Rattle.signs.specs.Signs.{signBit}
 
 -- x comes before y, as the Rust's `total_cmp` has it: it is less, or the two are equal and it alone has the sign, or y alone is NaN
 unfoldable pub totalLess : Float → Float → Bool
-unfolding lt eq signBit isNan
+unfolding lt eq isNan
 totalLess x y = lt x y || ((eq x y && (signBit x && not (signBit y))) || (not (isNan x) && isNan y))
 
 -- the number a with the key x goes before the number b with the key y, or is b

@@ -5,6 +5,7 @@ use mathlib.Core.List.{List, [], _∷_, _++_}
 use Prim.Native.Nat.{ℕ, _+_, _-_, _≤_, _<_}
 use lib.Dec.{leb, eqb, ltb}
 use lib.ListN.{length, getD, take, drop}
+use Rattle.lists.specs.Lists.{times, Every}
 
 -- x before the first member that it goes before
 unfoldable pub insert : (ℕ → ℕ → Bool) → ℕ → List ℕ → List ℕ
@@ -50,31 +51,18 @@ pub record Dealt (p : ℕ → Bool) (s₀ t₀ s t : List ℕ) (a i : ℕ) : Typ
   pub failed : take (i - a) t ≡ others p (take i s₀)
   pub ahead : drop i s ≡ drop i s₀
 
--- what holds of each member
-unfoldable pub Each : (ℕ → Type 0) → List ℕ → Type 0
-Each P [] = Unit {0}
-Each P (x ∷ xs) = P x × Each P xs
-
 -- each member goes before all that follow
 unfoldable pub Sorted : (ℕ → ℕ → Bool) → List ℕ → Type 0
-unfolding Each
+unfolding Every
 Sorted le [] = Unit {0}
-Sorted le (x ∷ xs) = Each (λ y. le x y ≡ true) xs × Sorted le xs
+Sorted le (x ∷ xs) = Every (λ y. le x y ≡ true) xs × Sorted le xs
 
 -- the first m in order, ascending, then the others, ascending
 unfoldable pub halves : (ℕ → ℕ → Bool) → ℕ → List ℕ → List ℕ
 unfolding sort
 halves le m xs = sort leb (take m (sort le xs)) ++ sort leb (drop m (sort le xs))
 
--- how often i occurs in the list
-unfoldable pub times : ℕ → List ℕ → ℕ
-times i [] = 0
-times i (x ∷ xs) = cond (eqb x i) 1 0 + times i xs
-
-abbrev pub In : ℕ → List ℕ → Type 0
-In i xs = 0 < times i xs
-
 -- what the Rust's `select_nth_unstable_by` at the place m promises to leave of xs: the same members, and none of the first m goes after one of the others; it says nothing of the order inside the two parts
 pub record Selected (le : ℕ → ℕ → Bool) (m : ℕ) (xs ys : List ℕ) : Type 0 where
   pub same : (i : ℕ) → times i ys ≡ times i xs
-  pub parted : Each (λ a. Each (λ b. le a b ≡ true) (drop m ys)) (take m ys)
+  pub parted : Every (λ a. Every (λ b. le a b ≡ true) (drop m ys)) (take m ys)

@@ -6,22 +6,6 @@ ghost use lib.ListN.{length, getD, set, take, drop};
 ghost use Rattle.sorts.specs.Sort.{sort, merge, fromFirst, keep, others, Dealt};
 ghost use Rattle.sorts.specs.Keys.{totalLess, goesBy, goes, ahead, aheadBit, keyIn};
 
-// The member at i, 0 past the end.
-pub fn at(s: &[u32], i: usize) -> u32
-    ensures { λ r. ⌜ r ≡ getD (now (s .entry)) i 0 ⌝ }
-{
-    if i < s.len() { s[i] } else { 0 }
-}
-
-// Stores x at i; nothing past the end.
-pub fn put(s: &mut [u32], i: usize, x: u32)
-    ensures { λ _. ⌜ now (s .exit) ≡ set (now (s .entry)) i x ⌝ }
-{
-    if i < s.len() {
-        s[i] = x;
-    }
-}
-
 // The key of item i, NaN past the end.
 pub fn key(keys: &[f64], i: u32) -> f64
     ensures { λ r. ⌜ r ≡ keyIn (now (keys .entry)) i ⌝ }
@@ -72,7 +56,7 @@ fn from_first(keys: &[f64], a: &[u32], i: usize, b: &[u32], j: usize) -> bool
 {
     if i < a.len() {
         if j < b.len() {
-            return before(keys, at(a, i), at(b, j));
+            return before(keys, lists::at(a, i), lists::at(b, j));
         }
         return true;
     }
@@ -88,10 +72,10 @@ fn merged(keys: &[f64], a: &[u32], b: &[u32], s: &mut [u32])
     let mut j: usize = 0;
     while i + j < s.len() {
         if from_first(keys, a, i, b, j) {
-            put(s, i + j, at(a, i));
+            lists::put(s, i + j, lists::at(a, i));
             i += 1;
         } else {
-            put(s, i + j, at(b, j));
+            lists::put(s, i + j, lists::at(b, j));
             j += 1;
         }
     }
@@ -104,7 +88,7 @@ fn copied(s: &[u32], t: &mut [u32])
 {
     let mut i: usize = 0;
     while i < s.len() {
-        put(t, i, at(s, i));
+        lists::put(t, i, lists::at(s, i));
         i += 1;
     }
 }
@@ -158,7 +142,7 @@ fn dealt(keys: &[f64], v: f64, x: u32, s: &mut [u32], t: &mut [u32]) -> usize
     let mut a: usize = 0;
     let mut i: usize = 0;
     while i < s.len() {
-        let y = at(s, i);
+        let y = lists::at(s, i);
         let c = is_ahead(key(keys, y), y, v, x);
         s[a] = y;
         t[i - a] = y;

@@ -1,11 +1,11 @@
--- `entries::larger` meets its contract. Assumes nothing.
-use Rattle.entries.proofs.ScaleLaws.{magnitude, larger-is, larger-from}
+-- `number::choices::larger` meets its contract. Assumes nothing.
+use Rattle.number.proofs.ChoiceLaws.{magnitude, larger-is, larger-from}
 use mathlib.Core.Path.{sym, subst}
 use lib.Dec.{T}
 use lib.Ieee.{ofBits}
 use borrow.Author.Needs.{needs}
-use Rattle.entries.proofs.larger.Statement.{statement}
-use Rattle.entries.proofs.larger.Tie as tie
+use Rattle.number.proofs.choices.larger.Statement.{statement}
+use Rattle.number.proofs.choices.larger.Tie as tie
 
 pick-requires : tie.Need-pick-requires
 pick-requires c κs = search needs

@@ -1,10 +1,10 @@
--- `entries::number_at` meets its contract. Assumes nothing.
+-- `lists::number_at` meets its contract. Assumes nothing.
 use lib.Ieee.{nan, div, ofBits}
 use lib.ListN.{List·getD-eq-default}
 use mathlib.Core.Path.{sym}
 use borrow.Author.Needs.{needs}
-use Rattle.entries.proofs.number_at.Statement.{statement}
-use Rattle.entries.proofs.number_at.Tie as tie
+use Rattle.lists.proofs.number_at.Statement.{statement}
+use Rattle.lists.proofs.number_at.Tie as tie
 
 mul-result : tie.Need-mul-result
 mul-result c = search needs

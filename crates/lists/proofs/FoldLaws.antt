@@ -1,13 +1,15 @@
--- Folds by a loop: what is left to fold gives the final answer, one member is taken at each turn, and at the end nothing is left. Assumes nothing.
-use mathlib.Core.Path.{_≡_, refl, ap, _∙_}
+-- Folds: by a loop, in which what is left to fold gives the final answer; over two lists one after the other; and whether some member passes a test. Assumes nothing.
+use mathlib.Core.Path.{_≡_, refl, sym, ap, _∙_, subst}
 use mathlib.Core.Bool.{Bool, true, false, _||_, true≢false}
 use mathlib.Core.List.{List, [], _∷_, _++_}
 use Prim.Native.Nat.{ℕ, zero, suc, _+_, _-_, _≤_, _<_}
 use native.Mathlib.Numerals.{add-one}
 use native.Mathlib.Omega.{arith}
+use lib.Dec.{T}
 use lib.ListN.{length, getD, drop}
 use lib.Seq.{drop-cons, drop-length}
-use Rattle.boundary.specs.Folds.{run, fold, any}
+use Rattle.lists.specs.Lists.{run, fold, any, Every}
+use Rattle.lists.proofs.RunLaws.{run-last}
 
 module _ {A B : Type 0} (f : A → B → A) where
   -- over the run g i, g (i + 1), .. up to g n, that one not included
@@ -34,13 +36,23 @@ module _ {A B : Type 0} (f : A → B → A) where
   fold-last free a x [] = refl
   fold-last free a x (y ∷ xs) = fold-last free (f a y) x xs ∙ ap (λ t. fold f t xs) (free a y x)
 
+  -- over two lists one after the other
+  pub fold-append : (a : A) (xs ys : List B) → fold f a (xs ++ ys) ≡ fold f (fold f a xs) ys
+  unfolding fold
+  fold-append a [] ys = refl
+  fold-append a (x ∷ xs) ys = fold-append (f a x) xs ys
+
+  pub fold-run-last : (g : ℕ → B) (a : A) (i k : ℕ) → fold f a (run g i (k + 1)) ≡ f (fold f a (run g i k)) (g (i + k))
+  unfolding fold
+  fold-run-last g a i k = rw (add-one k, run-last g i k) (fold-append a (run g i k) (g (i + k) ∷ []))
+
+-- neither of two holds where one of them or the other does not
+pub or-none : (a b : Bool) → (a || b) ≡ false → (a ≡ false) × (b ≡ false)
+or-none true b e = absurd (true≢false e)
+or-none false b e = (refl, e)
+
 -- where no member passes a test, the i-th does not
 module _ {A : Type 0} (p : A → Bool) where
-  or-none : (a b : Bool) → (a || b) ≡ false → (a ≡ false) × (b ≡ false)
-  or-none false false e = (refl, refl)
-  or-none false true e = absurd (true≢false e)
-  or-none true b e = absurd (true≢false e)
-
   fold-first : (b : Bool) (xs : List A) → fold (λ c x. c || p x) b xs ≡ false → b ≡ false
   unfolding fold
   fold-first b [] e = e
@@ -76,3 +88,49 @@ module _ {A : Type 0} (p q : A → Bool) (harder : (x : A) → q x ≡ false →
   pub any-none : (xs : List A) → any q xs ≡ false → any p xs ≡ false
   unfolding any
   any-none xs e = fold-none false false xs (λ h. h) e
+
+-- over two lists one after the other, and where no member does
+module _ {A : Type 0} (p : A → Bool) where
+  -- with what was found before
+  pub any-from : (b : Bool) (xs : List A) → fold (λ c x. c || p x) b xs ≡ (b || any p xs)
+  unfolding fold any
+  any-from true [] = refl
+  any-from false [] = refl
+  any-from true (x ∷ xs) = any-from true xs
+  any-from false (x ∷ xs) = refl
+
+  pub any-append : (xs ys : List A) → any p (xs ++ ys) ≡ (any p xs || any p ys)
+  unfolding fold any
+  any-append [] ys = refl
+  any-append (x ∷ xs) ys = go (p x) (any-append xs ys)
+    where
+      go : (b : Bool) → any p (xs ++ ys) ≡ (any p xs || any p ys) → fold (λ c x. c || p x) b (xs ++ ys) ≡ (fold (λ c x. c || p x) b xs || any p ys)
+      go true e = any-from true (xs ++ ys) ∙ sym (ap (λ (c : Bool). c || any p ys) (any-from true xs))
+      go false e = e
+
+  pub none-of : (d : A) (xs : List A) → ((i : ℕ) → i < length xs → p (getD xs i d) ≡ false) → any p xs ≡ false
+  unfolding fold any
+  none-of d [] h = refl
+  none-of d (x ∷ xs) h = rw (h 0 (omega arith)) (none-of d xs (λ i l. h (suc i) (omega arith)))
+
+-- no member passes a test that none can pass
+pub any-never : {A : Type 0} (xs : List A) → any (λ x. false) xs ≡ false
+unfolding any fold
+any-never [] = refl
+any-never (x ∷ xs) = any-never xs
+
+-- where no member passes a test, every member fails it
+module _ {A : Type 0} (p : A → Bool) where
+  every-from : (b : Bool) (xs : List A) → fold (λ b x. b || p x) b xs ≡ false → Every (λ x. p x ≡ false) xs
+  unfolding fold Every
+  every-from b [] h = tt
+  every-from b (x ∷ xs) h = (failed b (p x) h, every-from (b || p x) xs h)
+    where
+      failed : (b c : Bool) → fold (λ b x. b || p x) (b || c) xs ≡ false → c ≡ false
+      failed b false h = refl
+      failed false true h = absurd (subst T (sym (fold-found p xs) ∙ h) tt)
+      failed true true h = absurd (subst T (sym (fold-found p xs) ∙ h) tt)
+
+  pub every-fails : (xs : List A) → any p xs ≡ false → Every (λ x. p x ≡ false) xs
+  unfolding any
+  every-fails xs h = every-from false xs h

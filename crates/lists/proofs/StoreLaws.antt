@@ -7,19 +7,8 @@ use native.Mathlib.Numerals.{add-one}
 use native.Mathlib.Omega.{arith}
 use lib.ListN.{length, getD, set, drop, length-append, List·getD-append}
 use lib.Seq.{drop-length, set-comm, sets, sets-eq, getD-append-add}
-use Rattle.boundary.specs.Folds.{run}
-use Rattle.boundary.proofs.RunLaws.{run-last}
-
-pub length-run : {A : Type 0} (g : ℕ → A) (i k : ℕ) → length (run g i k) ≡ k
-unfolding run
-length-run g i zero = refl
-length-run g i (suc k) = ap suc (length-run g (suc i) k)
-
-pub run-at : {A : Type 0} (g : ℕ → A) (i k j : ℕ) (d : A) → j < k → getD (run g i k) j d ≡ g (i + j)
-unfolding run
-run-at g i zero j d h = absurd (omega arith)
-run-at g i (suc k) zero d h = rw add-zero
-run-at g i (suc k) (suc j) d h = run-at g (suc i) k j d (omega arith) ∙ ap g (omega arith)
+use Rattle.lists.specs.Lists.{run}
+use Rattle.lists.proofs.RunLaws.{run-last, length-run}
 
 module _ {A : Type 0} where
   pub sets-append : (l : List A) (i : ℕ) (xs ys : List A) → sets (sets l i xs) (i + length xs) ys ≡ sets l i (xs ++ ys)

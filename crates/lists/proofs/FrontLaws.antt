@@ -1,12 +1,20 @@
--- Zeros in the first n places of a list, one by one. Assumes nothing.
+-- What is written to the front of a list, and zeros in its first n places, one by one. Assumes nothing.
 use mathlib.Core.Path.{_≡_, refl, sym, ap, _∙_}
 use mathlib.Core.List.{List, [], _∷_, _++_}
-use Prim.Native.Nat.{ℕ, zero, suc, _+_, _≤_, _<_}
+use Prim.Native.Nat.{ℕ, zero, suc, _+_, _-_, _≤_, _<_}
 use native.Mathlib.Nat.{not-suc-le-zero, le-of-suc-le-suc}
 use native.Mathlib.Numerals.{add-one}
 use native.Mathlib.Omega.{arith}
 use lib.ListN.{length, set, drop, replicate, length-set, length-replicate}
-use Rattle.accept.specs.Lists.{atFront, zeros}
+use lib.Seq.{drop-append-add, drop-drop}
+use Rattle.lists.specs.Lists.{atFront, zeros}
+
+-- what is written over is gone
+pub front-front : {A : Type 0} (zs xs s : List A) → length xs ≤ length zs → length zs ≤ length s → atFront zs (atFront xs s) ≡ atFront zs s
+unfolding atFront
+front-front zs xs s h l =
+    let k : length zs ≡ length xs + (length zs - length xs) = omega arith in
+    ap (λ (r : List _). zs ++ r) (ap (λ (n : ℕ). drop n (xs ++ drop (length xs) s)) k ∙ drop-append-add xs (drop (length xs) s) (length zs - length xs) ∙ drop-drop (length zs - length xs) (length xs) s ∙ ap (λ (n : ℕ). drop n s) (sym k))
 
 module _ {A : Type 0} (z : A) where
   set-next : (i : ℕ) (s : List A) → i < length s → set (replicate i z ++ drop i s) i z ≡ replicate (suc i) z ++ drop (suc i) s

@@ -1,4 +1,4 @@
--- The larger of a number from 1 on and a magnitude, by comparisons alone. Assumes nothing.
+-- The larger of a number from 1 on and a magnitude, and a number clamped to 0..1, by comparisons alone. Assumes nothing.
 use mathlib.Core.Path.{_≡_, refl, sym, subst, ap, _∙_}
 use mathlib.Core.Bool.{Bool, true, false, not, cond, _&&_, _||_, false≢true}
 use Prim.Native.Nat.{zero, suc, _+_, _*_, _<_}
@@ -10,13 +10,11 @@ use lib.Ieee.{Float, nan, inf, fin, binary64, up, down, neg, lt, le, eq, isNan, 
 use lib.Ieee.Bits.{is-true, is-false}
 use lib.Ieee.Fits.{and-l, up-pos, down-pos, neg-fits}
 use borrow.Author.Tests.{lt-ltb, le-ltb, ne-eqb, eqb-true}
-use Rattle.number.specs.Exact.{zeroᶠ}
-use Rattle.signs.specs.Signs.{signBit, withSign, absOf, before, maxOf}
+use Rattle.number.specs.Exact.{zeroᶠ, one}
+use Rattle.signs.specs.Signs.{signBit, withSign, absOf, before, maxOf, clampOf}
 use Rattle.number.proofs.Units.{value-unique}
-use Rattle.number.proofs.OrderLaws.{le-through, not-below, below-le, level-le, below-not-le, below-through, right-not-nan}
-use Rattle.boundary.specs.Line.{one}
-use Rattle.boundary.proofs.AlongLaws.{one-of}
-use Rattle.sorts.proofs.Order.{above-sign}
+use Rattle.number.proofs.OrderLaws.{le-through, not-below, below-le, level-le, level-ge, le-level, le-not-below, below-not-le, below-through, right-not-nan, above-sign}
+use Rattle.number.proofs.Basics.{one-of}
 
 -- ---- against a magnitude
 none-of : (b : Bool) → (T b → ⊥) → b ≡ false
@@ -112,3 +110,44 @@ larger-from s m h = go (lt s m) refl
     go : (b : Bool) → lt s m ≡ b → T (le one (cond b m s))
     go true e = le-through one s m h (below-le s m e)
     go false e = h
+
+-- ---- clamped to 0..1
+from-one-clamps : (t : Float) → T (le one t) → eq (clampOf t zeroᶠ one) one ≡ true
+unfolding clampOf
+from-one-clamps t l = rw (le-not-below t zeroᶠ (le-through zeroᶠ one t (unfold le lt eq in tt) l)) (past (lt one t) refl)
+  where
+    past : (u : Bool) → lt one t ≡ u → eq (cond u one t) one ≡ true
+    past true e = unfold eq in refl
+    past false e = is-true (eq t one) (le-level t one (not-below one t (unfold isNan in tt) (right-not-nan one t l) e) l)
+
+short-of-one-clamps : (t : Float) → le one t ≡ false → eq (clampOf t zeroᶠ one) one ≡ false
+unfolding clampOf
+short-of-one-clamps t h = go (lt t zeroᶠ) (lt one t) refl
+  where
+    not-so : (x : Bool) → (x ≡ true → T (le one t)) → x ≡ false
+    not-so true g = absurd (false≢true (sym h ∙ is-true (le one t) (g refl)))
+    not-so false g = refl
+
+    go : (u w : Bool) → lt one t ≡ w → eq (cond u zeroᶠ (cond w one t)) one ≡ false
+    go true w e = unfold eq in refl
+    go false true e = absurd (false≢true (sym (not-so (lt one t) (below-le one t)) ∙ e))
+    go false false e = not-so (eq t one) (level-ge t one)
+
+pub one-clamps : (t : Float) → le one t ≡ eq (clampOf t zeroᶠ one) one
+one-clamps t = go (le one t) refl
+  where
+    go : (b : Bool) → le one t ≡ b → b ≡ eq (clampOf t zeroᶠ one) one
+    go true h = sym (from-one-clamps t (subst T (sym h) tt))
+    go false h = sym (short-of-one-clamps t h)
+
+pub below-clamps : (t : Float) → lt t zeroᶠ ≡ true → clampOf t zeroᶠ one ≡ zeroᶠ
+unfolding clampOf
+below-clamps t h = rw h
+
+pub between-clamps : (t : Float) → eq (clampOf t zeroᶠ one) one ≡ false → lt t zeroᶠ ≡ false → clampOf t zeroᶠ one ≡ t
+unfolding clampOf
+between-clamps t h k = rw k (go (lt one t) refl)
+  where
+    go : (u : Bool) → lt one t ≡ u → cond u one t ≡ t
+    go true e = absurd (false≢true (sym (one-clamps t ∙ h) ∙ is-true (le one t) (below-le one t e)))
+    go false e = refl

@@ -1,9 +1,9 @@
--- `sorts::at` meets its contract. Assumes nothing.
+-- `lists::at` meets its contract. Assumes nothing.
 use mathlib.Core.Path.{sym}
 use lib.ListN.{List·getD-eq-default}
 use borrow.Author.Needs.{needs}
-use Rattle.sorts.proofs.at.Statement.{statement}
-use Rattle.sorts.proofs.at.Tie as tie
+use Rattle.lists.proofs.at.Statement.{statement}
+use Rattle.lists.proofs.at.Tie as tie
 
 mul-result : tie.Need-mul-result
 mul-result c = search needs

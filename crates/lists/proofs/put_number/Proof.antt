@@ -1,9 +1,9 @@
--- `entries::put_number` meets its contract. Assumes nothing.
+-- `lists::put_number` meets its contract. Assumes nothing.
 use lib.Seq.{set-out}
 use mathlib.Core.Path.{sym}
 use borrow.Author.Needs.{needs}
-use Rattle.entries.proofs.put_number.Statement.{statement}
-use Rattle.entries.proofs.put_number.Tie as tie
+use Rattle.lists.proofs.put_number.Statement.{statement}
+use Rattle.lists.proofs.put_number.Tie as tie
 
 mul-v : tie.Need-mul-v
 mul-v c = search needs

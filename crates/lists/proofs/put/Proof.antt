@@ -1,9 +1,9 @@
--- `sorts::put` meets its contract. Assumes nothing.
+-- `lists::put` meets its contract. Assumes nothing.
 use mathlib.Core.Path.{sym}
 use lib.Seq.{set-out}
 use borrow.Author.Needs.{needs}
-use Rattle.sorts.proofs.put.Statement.{statement}
-use Rattle.sorts.proofs.put.Tie as tie
+use Rattle.lists.proofs.put.Statement.{statement}
+use Rattle.lists.proofs.put.Tie as tie
 
 mul-s : tie.Need-mul-s
 mul-s c = search needs

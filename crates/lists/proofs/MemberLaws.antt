@@ -1,0 +1,66 @@
+-- Lists related member by member, and members of a list by how often they occur. Assumes nothing.
+use mathlib.Core.Path.{_≡_, refl, ap, subst}
+use mathlib.Core.Bool.{Bool, true, false, cond, _||_}
+use mathlib.Core.List.{List, [], _∷_, _++_, reverse, reverseAux}
+use Prim.Native.Nat.{ℕ, zero, suc, _+_, _<_}
+use native.Mathlib.Omega.{arith}
+use lib.Dec.{eqb}
+use lib.ListN.{length, take, drop, take-append-drop}
+use borrow.Author.Tests.{eq-eqb, eqb-true}
+use Rattle.lists.specs.Lists.{fold, any, times, In, Each}
+use Rattle.lists.specs.Lists.Each.{none, more}
+
+module _ {A B : Type 0} {R : A → B → Type 0} where
+  pub same-length : {xs : List A} {ys : List B} → Each R xs ys → length xs ≡ length ys
+  same-length none = refl
+  same-length (more h r) = ap suc (same-length r)
+
+  pub take-each : {xs : List A} {ys : List B} (n : ℕ) → Each R xs ys → Each R (take n xs) (take n ys)
+  take-each zero r = none
+  take-each (suc n) none = none
+  take-each (suc n) (more h r) = more h (take-each n r)
+
+  reverse-onto : {xs xs' : List A} {ys ys' : List B} → Each R xs ys → Each R xs' ys' → Each R (reverseAux xs xs') (reverseAux ys ys')
+  reverse-onto none s = s
+  reverse-onto (more h r) s = reverse-onto r (more h s)
+
+  pub reverse-each : {xs : List A} {ys : List B} → Each R xs ys → Each R (reverse xs) (reverse ys)
+  reverse-each r = reverse-onto r none
+
+  -- tests that agree on related members
+  module _ {p : A → Bool} {q : B → Bool} (agree : (x : A) (y : B) → R x y → p x ≡ q y) where
+    each-from : {xs : List A} {ys : List B} (b : Bool) → Each R xs ys → fold (λ b x. b || p x) b xs ≡ fold (λ b y. b || q y) b ys
+    unfolding fold
+    each-from b none = refl
+    each-from b (more {x = x} {y = y} h r) = rw (agree x y h) (each-from (b || q y) r)
+
+    pub any-each : {xs : List A} {ys : List B} → Each R xs ys → any p xs ≡ any q ys
+    unfolding any
+    any-each r = each-from false r
+
+-- ---- how often a number occurs
+pub times-append : (i : ℕ) (xs ys : List ℕ) → times i (xs ++ ys) ≡ times i xs + times i ys
+unfolding times
+times-append i [] ys = omega arith
+times-append i (x ∷ xs) ys = let e = times-append i xs ys in omega arith
+
+pub times-parts : (i m : ℕ) (xs : List ℕ) → times i (take m xs) + times i (drop m xs) ≡ times i xs
+times-parts i m xs = let e = times-append i (take m xs) (drop m xs) in let f = ap (times i) (take-append-drop m xs) in omega arith
+
+-- ---- members
+-- what holds of the first and of each of the rest holds of each
+pub in-cons : (P : ℕ → Type 0) (x : ℕ) (xs : List ℕ) → P x → ((i : ℕ) → In i xs → P i) → (i : ℕ) → In i (x ∷ xs) → P i
+unfolding times
+in-cons P x xs p ps i h = go (eqb x i) refl h
+  where
+    go : (b : Bool) → eqb x i ≡ b → 0 < cond b 1 0 + times i xs → P i
+    go true e l = subst P (eqb-true x i e) p
+    go false e l = ps i (omega arith)
+
+pub in-first : (x : ℕ) (xs : List ℕ) → In x (x ∷ xs)
+unfolding times
+in-first x xs = rw (eq-eqb x x refl) (omega arith)
+
+pub in-rest : (i x : ℕ) (xs : List ℕ) → In i xs → In i (x ∷ xs)
+unfolding times
+in-rest i x xs h = omega arith
