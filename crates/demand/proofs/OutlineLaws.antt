@@ -17,7 +17,7 @@ use Rattle.lists.proofs.RunLaws.{length-run, run-at}
 use Rattle.set.specs.Set.{startOf, outlineAt, outlinesOf}
 use Rattle.set.specs.Tests.{setTested}
 use Rattle.set.proofs.SetLaws.{passed-fit, outline-length, outline-count, passing}
-use Rattle.exact.specs.Grid.{OutlineOn}
+use Rattle.grid.specs.Grid.{OutlineOn}
 use Rattle.lists.proofs.MemberLaws.{take-each}
 use Rattle.lists.specs.Lists.Each.{none, more}
 

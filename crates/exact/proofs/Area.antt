@@ -13,7 +13,7 @@ use Rattle.number.proofs.ExactLaws.{half-is, add-sized, sub-sized, mul-sized}
 use Rattle.boundary.specs.declared.Edge.{Edge}
 use Rattle.lists.specs.Lists.{fold, total}
 use Rattle.accept.specs.Area.{crossOf, areaOf}
-use Rattle.exact.specs.Whole.{EdgeZ, crossZ, shoelaceZ}
+use Rattle.grid.specs.Whole.{EdgeZ, crossZ, shoelaceZ}
 use Rattle.exact.specs.Grid.{EdgeOn, EdgesOn}
 use Rattle.lists.specs.Lists.Each.{none, more}
 

@@ -15,8 +15,6 @@ pub mod WholeEdges
 pub mod Distance
 -- The distance of a point from one edge: `edge-near`.
 pub mod EdgeDistance
--- The exact distance is to the nearest point of the edge: `least-distance`.
-pub mod LeastDistance
 -- ---- what they rest on
 -- One edge and one point.
 pub mod OneEdge
@@ -24,14 +22,8 @@ pub mod OneEdge
 pub mod Crossing
 -- The parameter of an edge's nearest point.
 pub mod Parameter
--- Where a point stands along an edge.
-pub mod Standing
 -- The roundings of one distance, in whole numbers.
 pub mod Chain
--- A point off an edge is apart from it.
-pub mod Apart
--- Points on the line of an edge.
-pub mod Line
 -- Points between two ends.
 pub mod Between
 -- An outline's edges are the loop of its vertices.

@@ -9,7 +9,7 @@ use Rattle.boundary.specs.declared.Point.{Point}
 use Rattle.boundary.specs.declared.Edge.{Edge}
 use Rattle.lists.specs.Lists.{fold, any, oddly, Every}
 use Rattle.geometry.specs.Polygon.{crossesOf, containsOf, onEdge, locateOf}
-use Rattle.exact.specs.Whole.{PointZ, EdgeZ, onEdgeZ, boundaryZ, crossesZ, insideZ, locationZ}
+use Rattle.grid.specs.Whole.{PointZ, EdgeZ, onEdgeZ, boundaryZ, crossesZ, insideZ, locationZ}
 use Rattle.exact.specs.Grid.{PointOn, EdgesOn}
 use Rattle.lists.specs.Lists.Each.{none, more}
 use Rattle.lists.proofs.FoldLaws.{every-fails}

@@ -30,8 +30,9 @@ use Rattle.accept.specs.Refusals.{samePoint, negativeArea, shapeTested, signTes
 use Rattle.accept.specs.Answers.{answerFor}
 use Rattle.geometry.specs.Making.{kept, keptCount, numbers, turned, makeTested, makeAnswer, madeList}
 use Rattle.accept.specs.Lists.{writtenFor}
-use Rattle.exact.specs.Whole.{PointZ, EdgeZ, edgeZ, crossZ, shoelaceZ}
-use Rattle.exact.specs.Grid.{PointOn, EdgeOn, EdgesOn, OutlineOn}
+use Rattle.grid.specs.Grid.{OutlineOn}
+use Rattle.grid.specs.Whole.{PointZ, EdgeZ, edgeZ, crossZ, shoelaceZ}
+use Rattle.exact.specs.Grid.{PointOn, EdgeOn, EdgesOn}
 use Rattle.exact.specs.OneOutline.{MadeOn}
 use Rattle.lists.proofs.RunLaws.{length-run}
 use Rattle.lists.proofs.FoldLaws.{any-never}

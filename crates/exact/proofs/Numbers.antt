@@ -9,8 +9,9 @@ use Rattle.boundary.specs.declared.Point.{Point}
 use Rattle.lists.specs.Lists.{run, Each}
 use Rattle.boundary.specs.Outline.{count, vertices}
 use Rattle.geometry.specs.Making.{numbers}
-use Rattle.exact.specs.Whole.{PointZ}
-use Rattle.exact.specs.Grid.{PointOn, OutlineOn}
+use Rattle.grid.specs.Grid.{OutlineOn}
+use Rattle.grid.specs.Whole.{PointZ}
+use Rattle.exact.specs.Grid.{PointOn}
 use Rattle.lists.specs.Lists.Each.{none, more}
 use Rattle.exact.proofs.Loop.{vertices-more}
 

@@ -15,7 +15,7 @@ use Rattle.geometry.specs.Polygon.{containsOf}
 use Rattle.accept.specs.Refusals.{outlineTested, pointTested}
 use Rattle.accept.specs.Answers.{answerFor}
 use Rattle.geometry.specs.Answers.{areaAnswer, locateAnswer, distanceAnswer}
-use Rattle.exact.specs.Grid.{OutlineOn}
+use Rattle.grid.specs.Grid.{OutlineOn}
 use Rattle.exact.specs.OneOutline.{GridExact}
 use Rattle.exact.proofs.Area.{area-exact}
 use Rattle.exact.proofs.Location.{location-exact}

@@ -18,9 +18,9 @@ use Rattle.number.proofs.Operations.{equation→is, zero-is}
 use Rattle.number.proofs.OrderLaws.{clamp-is}
 use Rattle.number.proofs.RoundingLaws.{rounded-within, rounded-relative, rounded-nonneg, rounded-nonpos}
 use Rattle.number.proofs.Compare.{lt-is, is-lt, not-lt}
-use Rattle.exact.specs.Distance.{Stand}
-use Rattle.exact.specs.Distance.Stand.{before, beside, past}
-use Rattle.exact.proofs.Standing.{Stands, reach}
+use Rattle.grid.proofs.Standing.{Stands, reach}
+use Rattle.grid.specs.Distance.Stand.{before, beside, past}
+use Rattle.grid.specs.Distance.{Stand}
 use Rattle.exact.proofs.Chain as C
 
 -- 1, and 2 ^ -52, in units of 2 ^ -1074

@@ -6,8 +6,9 @@ use lib.Ieee.{Float}
 use Rattle.boundary.specs.declared.Point.{Point}
 use Rattle.lists.specs.Lists.{run, Each}
 use Rattle.boundary.specs.Outline.{vertices, edges}
-use Rattle.exact.specs.Whole.{PointZ, EdgeZ, edgeZ}
-use Rattle.exact.specs.Grid.{OnGrid, PointOn, EdgesOn, OutlineOn}
+use Rattle.grid.specs.Grid.{OnGrid, OutlineOn}
+use Rattle.grid.specs.Whole.{PointZ, EdgeZ, edgeZ}
+use Rattle.exact.specs.Grid.{PointOn, EdgesOn}
 use Rattle.lists.specs.Lists.Each.{none, more}
 use Rattle.exact.proofs.Loop.{path, loop, edge, edges-loop, vertices-more}
 

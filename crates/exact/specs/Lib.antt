@@ -1,12 +1,8 @@
 -- What is said of outlines on the grid. Definitions only.
 
--- Whole-number geometry.
-pub mod Whole
--- The grid.
+-- Points and edges on the grid.
 pub mod Grid
 -- What holds of an outline on the grid.
 pub mod OneOutline
--- The exact distance.
+-- A distance near the exact one.
 pub mod Distance
--- Worked examples.
-pub mod Examples

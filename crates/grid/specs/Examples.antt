@@ -5,8 +5,8 @@ use mathlib.Core.List.{List, [], _∷_}
 use Prim.Native.Nat.{ℕ, _*_, _^_}
 use lib.IntN.{pos}
 use Rattle.lists.specs.Lists.{fold, any, oddly}
-use Rattle.exact.specs.Whole.{PointZ, EdgeZ, edgeZ, crossZ, shoelaceZ, turnZ, betweenZ, onEdgeZ, boundaryZ, crossesZ, insideZ, locationZ}
-use Rattle.exact.specs.Distance.{numZ, denZ}
+use Rattle.grid.specs.Whole.{PointZ, EdgeZ, edgeZ, crossZ, shoelaceZ, turnZ, betweenZ, onEdgeZ, boundaryZ, crossesZ, insideZ, locationZ}
+use Rattle.grid.specs.Distance.{numZ, denZ}
 
 -- (x, y) µm
 abbrev point : ℕ → ℕ → PointZ

@@ -1,0 +1,1 @@
+// Laws only: whole-number geometry, and the grid.
