@@ -6,7 +6,7 @@ pub mod Area
 pub mod Refusals
 -- What the tests of an outline hand over: its area too.
 pub mod Verdicts
--- What an operation answers, and the paper's number and values for it.
+-- What an operation answers, its fields, and all that a call leaves.
 pub mod Answers
 -- Lent lists, as a call leaves them.
 pub mod Lists

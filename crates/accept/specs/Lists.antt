@@ -13,6 +13,7 @@ atFront xs out = xs ++ drop (length xs) out
 abbrev pub zeros : {A : Type 0} → A → ℕ → List A
 zeros z n = replicate n z
 
+-- ---- until every crate is moved
 -- what a call puts into a lent list: xs at the front where the tests are passed, nothing where it is refused
 unfoldable pub writtenFor : {A : Type 0} → List A → List A → Test → List A
 unfolding atFront
