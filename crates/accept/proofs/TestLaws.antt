@@ -41,23 +41,32 @@ refusing-passed Passed r true e = absurd (never e)
 refusing-passed Passed r false e = (refl, refl)
 refusing-passed (Failed q) r fails e = absurd (never e)
 
--- a test where those of t are passed, and what t says where they are not
-pub given-passed : (t u : Test) → given t u Failed ≡ Passed → (t ≡ Passed) × (u ≡ Passed)
+-- ---- given a test
+pub given-passed : {A : Type 0} {t : Test} → t ≡ Passed → (a : A) (refused : Refusal → A) → given t a refused ≡ a
 unfolding given
-given-passed Passed u e = (refl, e)
-given-passed (Failed r) u e = absurd (never e)
+given-passed e a refused = rw e
 
--- ---- given a test: what a function gives of it
+pub given-failed : {A : Type 0} {t : Test} {r : Refusal} → t ≡ Failed r → (a : A) (refused : Refusal → A) → given t a refused ≡ refused r
+unfolding given
+given-failed e a refused = rw e
+
+-- what a function gives of it
 pub given-map : {A B : Type 0} (f : A → B) (t : Test) (a : A) (refused : Refusal → A) → f (given t a refused) ≡ given t (f a) (λ r. f (refused r))
 unfolding given
 given-map f Passed a refused = refl
 given-map f (Failed r) a refused = refl
 
--- given nothing else, what it says
+-- what the test says
 pub given-itself : (t : Test) → given t Passed Failed ≡ t
 unfolding given
 given-itself Passed = refl
 given-itself (Failed r) = refl
+
+-- tests after those of t are passed where both are
+pub both-passed : (t u : Test) → given t u Failed ≡ Passed → (t ≡ Passed) × (u ≡ Passed)
+unfolding given
+both-passed Passed u e = (refl, e)
+both-passed (Failed r) u e = absurd (never e)
 
 -- ---- tests 1 and 3 to 8
 pub record Shape (v : List Float) : Type 0 where
@@ -92,7 +101,7 @@ values-passed v e =
 pub shape : (v : List Float) → shapeTested v ≡ Passed → Shape v
 unfolding shapeTested
 shape v e =
-    let p = given-passed (countTested v) (valuesTested v) e in
+    let p = both-passed (countTested v) (valuesTested v) e in
     let c = count-passed v (p .0) in
     let n = values-passed v (p .1) in
     record { even = c .0; enough = c .1; few = c .2; all-finite = n .0; all-in-field = n .1; apart = n .2; nonzero = n .3 }

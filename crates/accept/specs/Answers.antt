@@ -1,6 +1,5 @@
 -- What an operation answers, what the call then puts into its fields, and all that a call leaves. Definitions only.
 use Prim.Native.Nat.{ℕ}
-use lib.Ieee.{Float}
 use Rattle.number.specs.Exact.{zeroᶠ}
 use Rattle.boundary.specs.Boxes.{cellOf}
 use Rattle.accept.specs.declared.Answer.{Answer}

@@ -1,6 +1,7 @@
 // The tests of a call: the outline, the cell, the buffer.
 ghost use mathlib.Core.Path.{_≡_};
 ghost use Rattle.fill.specs.Answers.{fillTested};
+use accept::Refusal;
 use accept::Test;
 use accept::refusals;
 use boundary::Bounds;
@@ -9,6 +10,10 @@ use boundary::Bounds;
 pub fn fill_tested(v: &[f64], c: Bounds, room: usize) -> Test
     ensures { λ r. ⌜ r ≡ fillTested (now (v .entry)) c room ⌝ }
 {
-    let t = refusals::cell_tested(c, refusals::outline_tested(v));
-    refusals::room_tested(room / 8 < v.len() / 2, t)
+    let t = refusals::refusing(
+        refusals::outline_tested(v),
+        Refusal::BadBox,
+        !refusals::box_fits(c),
+    );
+    refusals::refusing(t, Refusal::ShortBuffer, room / 8 < v.len() / 2)
 }
