@@ -26,14 +26,6 @@ failed (Failed r) = true
 pub never : {r : Refusal} → Failed r ≡ Passed → ⊥
 never e = true≢false (ap failed e)
 
-pub passes : (b : Bool) (r : Refusal) (t : Test) → cond b (Failed r) t ≡ Passed → (b ≡ false) × (t ≡ Passed)
-passes true r t e = absurd (never e)
-passes false r t e = (refl, e)
-
-pub passes-else : (b : Bool) (r : Refusal) (t : Test) → cond b t (Failed r) ≡ Passed → (b ≡ true) × (t ≡ Passed)
-passes-else true r t e = (refl, e)
-passes-else false r t e = absurd (never e)
-
 -- a test after those before it is passed where they and it are
 pub refusing-passed : (t : Test) (r : Refusal) (fails : Bool) → (t refusing r when fails) ≡ Passed → (t ≡ Passed) × (fails ≡ false)
 unfolding _refusing_when_
@@ -127,6 +119,14 @@ accepted-field v e =
     (s .all-in-field, omega arith)
 
 -- ---- until every crate is moved
+pub passes : (b : Bool) (r : Refusal) (t : Test) → cond b (Failed r) t ≡ Passed → (b ≡ false) × (t ≡ Passed)
+passes true r t e = absurd (never e)
+passes false r t e = (refl, e)
+
+pub passes-else : (b : Bool) (r : Refusal) (t : Test) → cond b t (Failed r) ≡ Passed → (b ≡ true) × (t ≡ Passed)
+passes-else true r t e = (refl, e)
+passes-else false r t e = absurd (never e)
+
 pub point-passed : (p : Point) (t : Test) → pointTested p t ≡ Passed → (pointInField p ≡ true) × (t ≡ Passed)
 unfolding pointTested
 point-passed p Passed e = passes-else (pointInField p) BadPoint Passed e

@@ -1,6 +1,8 @@
 -- What an operation answers, what the call then puts into its fields, and all that a call leaves. Definitions only.
 use Prim.Native.Nat.{ℕ}
+use lib.Ieee.{Float}
 use Rattle.number.specs.Exact.{zeroᶠ}
+use Rattle.boundary.specs.declared.Distance.{Distance}
 use Rattle.boundary.specs.Boxes.{cellOf}
 use Rattle.accept.specs.declared.Answer.{Answer}
 use Rattle.accept.specs.declared.Answer.the-variants.{Refused, Told, Measure, Box, Away}
@@ -13,7 +15,8 @@ use Rattle.accept.specs.declared.Test.{Test}
 use Rattle.accept.specs.declared.Test.the-variants.{Passed, Failed}
 use Rattle.accept.specs.Refusals.{number}
 
--- ---- the fields of an answer: what the call returns, and what it puts into the fields that it is lent. A refusal gives its number, and zeros
+-- ---- the fields of an answer: what the call returns, and what it puts into the fields that it is lent. A refusal gives its number, and zeros;
+-- an answer of another kind, which no call gives, 0 and zeros
 -- a count, a flag or a location
 abbrev pub noCount : ℕ → CountFields
 noCount n = record { number = n; count = 0 }
@@ -48,8 +51,11 @@ boxFields (Box b) = record { number = 0; bounds = b }
 boxFields (Away d) = noBox 0
 
 -- a distance, with its normal or its nearest point
+abbrev pub away : Float → Float → Float → Distance
+away d x y = record { d = d; v = record { x = x; y = y } }
+
 abbrev pub noDistance : ℕ → DistanceFields
-noDistance n = record { number = n; distance = record { d = zeroᶠ; v = record { x = zeroᶠ; y = zeroᶠ } } }
+noDistance n = record { number = n; distance = away zeroᶠ zeroᶠ zeroᶠ }
 
 abbrev pub distanceFields : Answer → DistanceFields
 distanceFields (Refused r) = noDistance (number r)

@@ -2,7 +2,7 @@
 
 -- An outline's area.
 pub mod Area
--- The tests that an outline, a point, a cell and a buffer go through, in document 01's order.
+-- Tests one after the other, what stands given them, and those of an outline, in document 01's order.
 pub mod Refusals
 -- What the tests of an outline hand over: its area too.
 pub mod Verdicts

@@ -1,4 +1,4 @@
--- The tests that an outline, a point, a cell and a buffer go through, in document 01's order, each over the whole outline before the next. Definitions only.
+-- A test after those before it, what stands given a test, and the tests of an outline in document 01's order, each over the whole outline before the next. Definitions only.
 use mathlib.Core.Bool.{Bool, not, _&&_, cond}
 use mathlib.Core.List.{List}
 use Prim.Native.Nat.{ℕ, _%_}

@@ -11,7 +11,7 @@ use Rattle.accept.specs.Refusals.{_refusing_when_, given}
 
 -- what tests 7 and 8 hand over of an outline of area a that has, or has not, equal neighbours
 unfoldable pub edgesVerdict : Bool → Float → Verdict
-unfolding _refusing_when_ given eq
+unfolding _refusing_when_ given
 edgesVerdict same a =
     given (Passed refusing EqualNeighbours when same refusing ZeroArea when eq a zeroᶠ) (Area a) TurnedAway
 

@@ -1,4 +1,4 @@
-// The tests of an outline, a point, a cell and a buffer, in document 01's order. An outline's area, which
+// The tests of an outline in document 01's order, and a test after those before it. An outline's area, which
 // the tests work out, is handed over with what they say.
 ghost use mathlib.Core.Path.{_≡_};
 ghost use mathlib.Core.Bool.{false, not, cond};

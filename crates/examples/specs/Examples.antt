@@ -24,6 +24,7 @@ use Rattle.accept.specs.declared.Answer.{Answer}
 use Rattle.accept.specs.declared.Answer.the-variants.{Refused, Told, Measure, Away}
 use Rattle.accept.specs.declared.Refusal.the-variants.{ZeroArea}
 use Rattle.accept.specs.declared.Test.the-variants.{Passed}
+use Rattle.accept.specs.Answers.{away}
 use Rattle.accept.specs.Lists.{atFront, zeros}
 use Rattle.geometry.specs.Answers.{queryTested, areaAnswer, perimeterAnswer, containsAnswer, locateAnswer, distanceAnswer}
 use Rattle.accept.specs.Area.{areaOf}
@@ -61,10 +62,6 @@ at x y = record { x = um x; y = um y }
 abbrev pub tenths : ℕ → Float
 unfolding div
 tenths n = div binary64 (um n) (um 10)
-
--- a distance and its normal, or its nearest point
-abbrev pub away : Float → Float → Float → Distance
-away d x y = record { d = d; v = record { x = x; y = y } }
 
 -- the square of the examples
 abbrev pub S : List Float

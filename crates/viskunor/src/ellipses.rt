@@ -1,7 +1,7 @@
 // Ellipses whose axes lie along x and y: the nearest point. A call gives its refusal's number, or 0, and
 // an answer in the fields that it is lent; a refused call puts zeros there.
 ghost use mathlib.Core.Path.{_≡_};
-ghost use Rattle.accept.specs.Answers.{distanceFields};
+ghost use Rattle.accept.specs.Answers.{away, distanceFields};
 ghost use Rattle.oval.specs.Ellipse.{ellipseAnswer};
 use accept::answers;
 use boundary::Point;
@@ -18,7 +18,7 @@ pub extern "C" fn vk_ellipse_nearest(
     nearest_y: &mut f64,
     distance: &mut f64,
 ) -> u32
-    ensures { λ r. ⌜ record { number = r; distance = record { d = now (distance .exit); v = record { x = now («nearest_x» .exit); y = now («nearest_y» .exit) } } }
+    ensures { λ r. ⌜ record { number = r; distance = away (now (distance .exit)) (now («nearest_x» .exit)) (now («nearest_y» .exit)) }
         ≡ distanceFields (ellipseAnswer (record { x = «centre_x»; y = «centre_y» }) «semi_x» «semi_y» (record { x = x; y = y })) ⌝ }
 {
     let c = Point {
