@@ -9,10 +9,9 @@ use lib.ListN.{length, take, drop}
 use lib.Seq.{sets, take-at}
 use lib.Ieee.{Float}
 use Rattle.boundary.specs.declared.Point.{Point}
-use Rattle.boundary.specs.Folds.{any}
+use Rattle.lists.specs.Lists.{any, atFront}
 use Rattle.boundary.specs.Outline.{edges}
 use Rattle.accept.specs.declared.Test.the-variants.{Passed}
-use Rattle.accept.specs.Lists.{atFront}
 use Rattle.geometry.specs.Polygon.{containsOf}
 use Rattle.splits.specs.Tree.{indexOf}
 use Rattle.index.specs.Answers.{boxesTested, Accepted}

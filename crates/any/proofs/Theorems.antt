@@ -9,14 +9,13 @@ use lib.Dec.{T, eqb, ltb}
 use lib.ListN.{length, getD}
 use lib.Ieee.{Float, nan, binary64, fits}
 use Rattle.boundary.specs.declared.Point.{Point}
-use Rattle.boundary.specs.Folds.{fold, any}
+use Rattle.lists.specs.Lists.{fold, any, times, In}
 use Rattle.boundary.specs.Outline.{edges}
 use Rattle.geometry.specs.Polygon.{containsOf}
-use Rattle.sorts.specs.Sort.{times, In}
 use Rattle.meeting.specs.Meeting.{apart}
 use Rattle.meeting.proofs.Theorems.{meeting-lists}
 use Rattle.set.specs.Set.{outlineAt, setBoxes, Fit}
-use Rattle.set.proofs.AnyLaws.{any-from}
+use Rattle.lists.proofs.FoldLaws.{any-from}
 use Rattle.set.proofs.SetLaws.{setBox, contains-past, boxes-length, box-at-set, boxes-tested, set-box-field}
 use Rattle.boundary.specs.Boxes.{spot}
 use Rattle.any.specs.Answers.{listedAt, anyAt}

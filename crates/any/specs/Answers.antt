@@ -6,7 +6,7 @@ use Prim.Native.Nat.{ℕ}
 use lib.Ieee.{Float}
 use Rattle.boundary.specs.declared.Point.{Point}
 use Rattle.boundary.specs.Boxes.{spot}
-use Rattle.boundary.specs.Folds.{any}
+use Rattle.lists.specs.Lists.{any}
 use Rattle.boundary.specs.Outline.{edges}
 use Rattle.accept.specs.declared.Answer.{Answer}
 use Rattle.accept.specs.declared.Answer.the-variants.{Told}

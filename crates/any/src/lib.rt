@@ -2,7 +2,7 @@
 ghost use mathlib.Core.Path.{_≡_};
 ghost use Prim.Native.Nat.{_*_, _≤_};
 ghost use lib.ListN.{length};
-ghost use Rattle.boundary.specs.Folds.{any};
+ghost use Rattle.lists.specs.Lists.{any};
 ghost use Rattle.boundary.specs.Outline.{edges};
 ghost use Rattle.geometry.specs.Polygon.{containsOf};
 ghost use Rattle.set.specs.Set.{startOf, outlineAt};
@@ -22,8 +22,8 @@ fn holds_at(v: &[f64], counts: &[u32], starts: &[u32], k: usize, p: Point) -> bo
     ensures { λ r. ⌜ r ≡ containsOf (edges (outlineAt (now (v .entry)) (now (counts .entry)) k)) p ⌝ }
 {
     if k < counts.len() {
-        let at = 2 * (sorts::at(starts, k) as usize);
-        let end = at + 2 * (sorts::at(counts, k) as usize);
+        let at = 2 * (lists::at(starts, k) as usize);
+        let end = at + 2 * (lists::at(counts, k) as usize);
         return polygon::holds(&v[at..end], p);
     }
     false
@@ -36,7 +36,7 @@ fn any_holds(v: &[f64], counts: &[u32], starts: &[u32], list: &[u32], p: Point) 
 {
     let mut i = 0;
     while i < list.len() {
-        if holds_at(v, counts, starts, sorts::at(list, i) as usize, p) {
+        if holds_at(v, counts, starts, lists::at(list, i) as usize, p) {
             return true;
         }
         i += 1;

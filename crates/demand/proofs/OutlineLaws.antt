@@ -7,19 +7,19 @@ use native.Mathlib.Omega.{arith}
 use borrow.Author.Tests.{le-ltb, ne-eqb}
 use lib.ListN.{length, getD, take, drop}
 use lib.Ieee.{Float}
-use Rattle.boundary.specs.Folds.{run, any}
+use Rattle.lists.specs.Lists.{run, any, Each}
 use Rattle.boundary.specs.Outline.{count}
-use Rattle.boundary.proofs.FoldLaws.{any-at}
+use Rattle.lists.proofs.FoldLaws.{any-at}
 use Rattle.accept.specs.declared.Test.the-variants.{Passed}
 use Rattle.accept.specs.Refusals.{notFinite, outsideField, equalNeighbours, zeroArea, negativeArea, outlineTested}
 use Rattle.accept.proofs.TestLaws.{Shape, tested}
-use Rattle.entries.proofs.StoreLaws.{length-run, run-at}
+use Rattle.lists.proofs.RunLaws.{length-run, run-at}
 use Rattle.set.specs.Set.{startOf, outlineAt, outlinesOf}
 use Rattle.set.specs.Tests.{setTested}
 use Rattle.set.proofs.SetLaws.{passed-fit, outline-length, outline-count, passing}
-use Rattle.exact.specs.Grid.{Each, OutlineOn}
-use Rattle.exact.specs.Grid.Each.{none, more}
-use Rattle.exact.proofs.EachLaws.{take-each}
+use Rattle.grid.specs.Grid.{OutlineOn}
+use Rattle.lists.proofs.MemberLaws.{take-each}
+use Rattle.lists.specs.Lists.Each.{none, more}
 
 -- ---- the tests
 module _ (v : List Float) (cs : List ℕ) (passed : setTested v cs ≡ Passed) (k : ℕ) (l : k < length cs) where

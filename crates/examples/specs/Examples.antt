@@ -13,7 +13,7 @@ use Rattle.boundary.specs.declared.Bounds.{Bounds}
 use Rattle.boundary.specs.declared.Near.{Near}
 use Rattle.boundary.specs.declared.Distance.{Distance}
 use Rattle.boundary.specs.Boxes.{boxFits, hull, scaleOf, widenedOf}
-use Rattle.boundary.specs.Folds.{run, fold, any, oddly, total}
+use Rattle.lists.specs.Lists.{run, fold, any, oddly, total, atFront, zeros}
 use Rattle.boundary.specs.Outline.{vertices, edges}
 use Rattle.boundary.specs.Length.{edgeLength, lengthOf}
 use Rattle.boundary.specs.Line.{paramOf, alongOf, footOf, normalOf, lineNear}
@@ -25,7 +25,6 @@ use Rattle.accept.specs.declared.Answer.the-variants.{Refused, Told, Measure, A
 use Rattle.accept.specs.declared.Refusal.the-variants.{ZeroArea}
 use Rattle.accept.specs.declared.Test.the-variants.{Passed}
 use Rattle.accept.specs.Answers.{away}
-use Rattle.accept.specs.Lists.{atFront, zeros}
 use Rattle.geometry.specs.Answers.{queryTested, areaAnswer, perimeterAnswer, containsAnswer, locateAnswer, distanceAnswer}
 use Rattle.accept.specs.Area.{areaOf}
 use Rattle.geometry.specs.Polygon.{containsOf, crossesOf, locateOf, onEdge}

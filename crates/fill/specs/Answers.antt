@@ -17,7 +17,7 @@ use Rattle.accept.specs.declared.Refusal.the-variants.{BadBox, ShortBuffer, Lon
 use Rattle.accept.specs.declared.Test.{Test}
 use Rattle.accept.specs.Refusals.{_refusing_when_, given, outlineTested}
 use Rattle.accept.specs.Answers.{measureFields, Outcome, refusedWith, inFields}
-use Rattle.accept.specs.Lists.{atFront, zeros}
+use Rattle.lists.specs.Lists.{atFront, zeros}
 use Rattle.fill.specs.Fill.{fillOf, longOf}
 
 -- the pieces of a half, of four numbers each: the most that fit twice into a buffer of `room` numbers

@@ -5,7 +5,7 @@ ghost use mathlib.Core.List.{List};
 ghost use Prim.Native.Nat.{_+_, _*_, _≤_};
 ghost use lib.ListN.{length, drop};
 ghost use Rattle.boundary.specs.declared.Edge.{Edge};
-ghost use Rattle.boundary.specs.Folds.{total};
+ghost use Rattle.lists.specs.Lists.{total};
 ghost use Rattle.boundary.specs.Outline.{count, edges};
 ghost use Rattle.accept.specs.declared.Answer.the-variants.{Refused, Measure};
 ghost use Rattle.accept.specs.declared.Refusal.the-variants.{LongList};
@@ -107,6 +107,6 @@ pub fn fill_in(v: &[f64], c: Bounds, w: &mut [f64]) -> Answer
     write_edges(v, w);
     let last = four(w, half, v.len() / 2, c);
     let answer = summed(w, half, last);
-    accept::lists::clear_numbers(w, 8 * half);
+    lists::clear_numbers(w, 8 * half);
     answer
 }

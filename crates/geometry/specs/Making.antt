@@ -14,7 +14,7 @@ use Rattle.accept.specs.declared.Refusal.the-variants.{ShortBuffer}
 use Rattle.accept.specs.declared.Test.{Test}
 use Rattle.accept.specs.Refusals.{_refusing_when_, given, samePoint, negativeArea, shapeTested}
 use Rattle.accept.specs.Answers.{countFields, Outcome, refusedWith, inFields}
-use Rattle.accept.specs.Lists.{atFront}
+use Rattle.lists.specs.Lists.{atFront}
 
 -- the last vertex repeats the first
 unfoldable pub closed : List Float → Bool

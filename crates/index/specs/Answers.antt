@@ -8,11 +8,11 @@ use lib.ListN.{length}
 use lib.Ieee.{Float}
 use Rattle.number.specs.Exact.{zeroᶠ}
 use Rattle.boundary.specs.Boxes.{boxFits}
-use Rattle.boundary.specs.Folds.{any}
+use Rattle.lists.specs.Lists.{any, atFront, zeros}
 use Rattle.accept.specs.declared.Refusal.the-variants.{TooMany, BadBox}
 use Rattle.accept.specs.declared.Test.{Test}
 use Rattle.accept.specs.declared.Test.the-variants.{Passed, Failed}
-use Rattle.accept.specs.Lists.{atFront, zeros, writtenFor}
+use Rattle.accept.specs.Lists.{writtenFor}
 use Rattle.accept.specs.Refusals.{number, roomTested}
 use Rattle.index.specs.declared.Built.{Built}
 use Rattle.index.specs.declared.Built.the-variants.{Refused, Sized}

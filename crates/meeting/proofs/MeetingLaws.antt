@@ -12,7 +12,7 @@ use lib.Ieee.Bits.{is-true}
 use Rattle.number.proofs.OrderLaws.{below-through, through-below}
 use Rattle.boundary.specs.declared.Bounds.{Bounds}
 use Rattle.boundary.specs.Boxes.{Around}
-use Rattle.accept.specs.Lists.{atFront}
+use Rattle.lists.specs.Lists.{atFront}
 use Rattle.accept.specs.declared.Test.the-variants.{Passed}
 use Rattle.accept.specs.Refusals.{cellTested}
 use Rattle.accept.proofs.TestLaws.{room-passed, cell-passed}
@@ -20,8 +20,9 @@ use Rattle.entries.specs.Entries.{boxAt}
 use Rattle.splits.specs.Tree.{Tree, leaf, inner, indexOf, itemsOf}
 use Rattle.nodes.specs.Layout.{extra, nodeOf, nodesOf, cornersOf, linksOf}
 use Rattle.index.specs.Answers.{boxesTested, shortIndex, Stored, Accepted, Cleared}
-use Rattle.entries.proofs.StoreLaws.{sets-front}
-use Rattle.index.proofs.GrowLaws.{length-index-items, or-none, accepted-of, stored-cleared}
+use Rattle.lists.proofs.FoldLaws.{or-none}
+use Rattle.lists.proofs.StoreLaws.{sets-front}
+use Rattle.index.proofs.GrowLaws.{length-index-items, accepted-of, stored-cleared}
 use Rattle.index.proofs.ReadLaws.{Holds, holds-first, holds-second, stored-holds, Deep}
 use Rattle.index.proofs.Theorems.{rootBox, Nested, nested, index-deep}
 use Rattle.meeting.specs.Meeting.{apart, meetingOf, visitedOf}

@@ -11,11 +11,11 @@ use lib.Seq.{sets, length-sets, set-out}
 use lib.Ieee.{Float}
 use borrow.Author.Tests.{lt-ltb, le-ltb}
 use Rattle.boundary.specs.declared.Bounds.{Bounds}
-use Rattle.boundary.specs.Folds.{run}
-use Rattle.boundary.proofs.RunLaws.{run-last}
+use Rattle.lists.proofs.RunLaws.{run-last}
+use Rattle.lists.specs.Lists.{run}
 use Rattle.entries.specs.Entries.{boxAt}
 use Rattle.nodes.specs.Layout.{itemAt, firstAt, countAt}
-use Rattle.entries.proofs.StoreLaws.{sets-append}
+use Rattle.lists.proofs.StoreLaws.{sets-append}
 use Rattle.meeting.specs.Meeting.{apart}
 use Rattle.meeting.specs.Walk.{hits, Put}
 

@@ -13,7 +13,8 @@ use Rattle.accept.specs.declared.Answer.the-variants.{Told}
 use Rattle.accept.specs.declared.Test.{Test}
 use Rattle.accept.specs.Refusals.{cellTested, roomTested}
 use Rattle.accept.specs.Answers.{answerFor}
-use Rattle.accept.specs.Lists.{atFront, zeros, writtenFor}
+use Rattle.lists.specs.Lists.{atFront, zeros}
+use Rattle.accept.specs.Lists.{writtenFor}
 use Rattle.splits.specs.Tree.{indexOf}
 use Rattle.index.specs.Answers.{boxesTested, shortIndex, Cleared}
 use Rattle.meeting.specs.Meeting.{meetingOf}

@@ -8,7 +8,7 @@ use lib.ListN.{length}
 use lib.Seq.{sets}
 use lib.Ieee.{Float}
 use Rattle.boundary.specs.declared.Bounds.{Bounds}
-use Rattle.boundary.specs.Folds.{run}
+use Rattle.lists.specs.Lists.{run}
 use Rattle.entries.specs.Entries.{boxAt}
 use Rattle.nodes.specs.Layout.{itemAt, firstAt, countAt}
 use Rattle.meeting.specs.Meeting.{apart}

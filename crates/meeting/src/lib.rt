@@ -2,7 +2,7 @@
 ghost use mathlib.Core.Path.{_≡_};
 ghost use Prim.Native.Nat.{_+_, _≤_, _<_, _^_, min};
 ghost use lib.ListN.{length, set};
-ghost use Rattle.boundary.specs.Folds.{run};
+ghost use Rattle.lists.specs.Lists.{run};
 ghost use Rattle.accept.specs.declared.Test.the-variants.{Passed};
 ghost use Rattle.entries.specs.Entries.{boxAt};
 ghost use Rattle.nodes.specs.Layout.{itemAt};
@@ -22,7 +22,7 @@ fn push(list: &mut [u32], k: usize, x: u32) -> usize
     requires { ⌜ k ≤ length (now list) ⌝ }
     ensures { λ r. ⌜ (now (list .exit) ≡ set (now (list .entry)) k x) × (r ≡ min (length (now (list .entry))) (k + 1)) ⌝ }
 {
-    sorts::put(list, k, x);
+    lists::put(list, k, x);
     if k < list.len() { k + 1 } else { k }
 }
 
@@ -34,7 +34,7 @@ fn copy(items: &[u32], first: usize, count: usize, list: &mut [u32], k: usize) -
     let mut i = 0;
     let mut j = k;
     while i < count {
-        j = push(list, j, sorts::at(items, first + i));
+        j = push(list, j, lists::at(items, first + i));
         i += 1;
     }
     j
@@ -70,8 +70,8 @@ fn visit(
     if misses(corners, n, c) {
         return k;
     }
-    let first = sorts::at(links, 2 * n) as usize;
-    let count = sorts::at(links, 2 * n + 1) as usize;
+    let first = lists::at(links, 2 * n) as usize;
+    let count = lists::at(links, 2 * n + 1) as usize;
     if count > 0 {
         return copy(items, first, count, list, k);
     }

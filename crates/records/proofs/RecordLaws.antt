@@ -10,11 +10,11 @@ use mathlib.Core.Bool.{false, _||_}
 use lib.ListN.{length, getD, set, take, drop}
 use lib.Seq.{take-suc-set, ext-getD}
 use lib.Ieee.{Float}
-use Rattle.boundary.specs.Folds.{run}
-use Rattle.boundary.proofs.RunLaws.{run-last}
+use Rattle.lists.proofs.RunLaws.{run-last, length-run, run-at}
+use Rattle.lists.specs.Lists.{run, atFront}
 use Rattle.accept.specs.declared.Test.{Test}
 use Rattle.accept.specs.declared.Test.the-variants.{Passed, Failed}
-use Rattle.accept.specs.Lists.{atFront, writtenFor}
+use Rattle.accept.specs.Lists.{writtenFor}
 use Rattle.accept.proofs.TestLaws.{room-passed}
 use Rattle.accept.specs.declared.Refusal.{Refusal}
 use Rattle.accept.specs.Refusals.{number}
@@ -22,12 +22,12 @@ use Rattle.nodes.specs.declared.Node.{Node}
 use Rattle.records.specs.declared.Recording.{Recording}
 use Rattle.index.specs.Answers.{builtFor, builtNumber, nodesIn, itemsIn, boxesTested, shortIndex, Stored}
 use Rattle.records.specs.Records.{nodesTested, nodesAnswer, recordNodes, recordItems, Recorded}
-use Rattle.index.proofs.GrowLaws.{or-none, boxes-passed, index-nodes, length-index-items}
+use Rattle.lists.proofs.FoldLaws.{or-none}
+use Rattle.index.proofs.GrowLaws.{boxes-passed, index-nodes, length-index-items}
 use Rattle.entries.specs.Entries.{boxCount}
 use Rattle.splits.specs.Tree.{Tree, indexOf}
 use Rattle.nodes.specs.Layout.{nodeOf, nodesOf, cornersOf, linksOf}
 use Rattle.records.specs.Records.{nodeIn}
-use Rattle.entries.proofs.StoreLaws.{length-run, run-at}
 use Rattle.index.proofs.ReadLaws.{NodeIs, node-is}
 
 -- the run g 0, g 1, .. at the front of a list, written one by one

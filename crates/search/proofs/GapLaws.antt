@@ -12,16 +12,15 @@ use Rattle.number.proofs.OrderLaws.{below-le, left-not-nan}
 use Rattle.boundary.specs.declared.Point.{Point}
 use Rattle.boundary.specs.declared.Bounds.{Bounds}
 use Rattle.boundary.specs.Boxes.{inField, FieldValue, FieldPoint, FieldBox, FiniteBox, Around, widenedOf, gapOf}
-use Rattle.boundary.specs.Folds.{run}
-use Rattle.boundary.proofs.FoldLaws.{any-at}
+use Rattle.lists.proofs.FoldLaws.{any-at}
+use Rattle.lists.specs.Lists.{run, In}
 use Rattle.boundary.proofs.BoxLaws.{widened-box-finite}
-use Rattle.sorts.specs.Sort.{In}
-use Rattle.sorts.proofs.SortLaws.{times-append}
+use Rattle.lists.proofs.MemberLaws.{times-append}
 use Rattle.entries.specs.Entries.{boxCount, wideAt, centreOf}
 use Rattle.splits.specs.Tree.{Tree, leaf, inner, hullOf, treeOf, indexOf, itemsOf, EachNode}
 use Rattle.boundary.proofs.AroundLaws.{Number}
 use Rattle.index.proofs.HullLaws.{hull-of-finite}
-use Rattle.entries.proofs.StoreLaws.{length-run}
+use Rattle.lists.proofs.RunLaws.{length-run}
 use Rattle.nodes.proofs.TreeLaws.{left, right, length-left, length-right, times-halves, tree-induct}
 use Rattle.index.proofs.Theorems.{items-times, items-once, node-boxes}
 use Rattle.set.specs.Set.{outlineAt, setBoxes, Fit}

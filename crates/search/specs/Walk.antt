@@ -8,8 +8,7 @@ use lib.ListN.{length, getD}
 use lib.Ieee.{Float, nan, binary64, fits, lt, eq}
 use Rattle.boundary.specs.declared.Point.{Point}
 use Rattle.boundary.specs.Boxes.{pointInField, gapOf}
-use Rattle.boundary.specs.Folds.{fold}
-use Rattle.accept.specs.Lists.{atFront}
+use Rattle.lists.specs.Lists.{fold, atFront}
 use Rattle.heap.specs.declared.Entry.{Entry}
 use Rattle.heap.specs.Heap.{Pushed}
 use Rattle.entries.specs.Entries.{boxAt}

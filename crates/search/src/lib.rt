@@ -6,12 +6,11 @@ ghost use lib.Dec.{T};
 ghost use lib.ListN.{length};
 ghost use lib.Ieee.{binary64, fits};
 ghost use Rattle.boundary.specs.Boxes.{inField, pointInField, gapAlong, gapOf};
-ghost use Rattle.boundary.specs.Folds.{run, any};
+ghost use Rattle.lists.specs.Lists.{run, any, In};
 ghost use Rattle.distance.specs.Nearest.{nearestOf};
 ghost use Rattle.boundary.specs.Outline.{count, edges};
 ghost use Rattle.heap.specs.Order.{Number};
 ghost use Rattle.heap.specs.Heap.{entryAt, Heaped};
-ghost use Rattle.sorts.specs.Sort.{In};
 ghost use Rattle.entries.specs.Entries.{boxAt};
 ghost use Rattle.nodes.specs.Layout.{itemAt};
 ghost use Rattle.search.specs.Least.{magnitudeAt, leastOf};
@@ -67,7 +66,7 @@ pub fn all_held(v: &[f64])
 {
     let mut i = 0;
     while i < v.len() {
-        held(entries::number_at(v, i));
+        held(lists::number_at(v, i));
         i += 1;
     }
 }
@@ -87,8 +86,8 @@ fn magnitude(v: &[f64], counts: &[u32], starts: &[u32], k: u32, p: Point) -> f64
     requires { ⌜ Asked (now v) (now counts) (now starts) p × (k < length (now counts)) ⌝ }
     ensures { λ r. ⌜ r ≡ magnitudeAt (now (v .entry)) (now (counts .entry)) p k ⌝ }
 {
-    let at = 2 * (sorts::at(starts, k as usize) as usize);
-    let end = at + 2 * (sorts::at(counts, k as usize) as usize);
+    let at = 2 * (lists::at(starts, k as usize) as usize);
+    let end = at + 2 * (lists::at(counts, k as usize) as usize);
     edge_distance(&v[at..end], p)
 }
 
@@ -109,7 +108,7 @@ fn look(
     let mut best = start;
     let mut i = 0;
     while i < count {
-        let k = sorts::at(items, (first as usize) + (i as usize));
+        let k = lists::at(items, (first as usize) + (i as usize));
         best = improve(best, k, magnitude(v, counts, starts, k, p));
         i += 1;
     }
@@ -157,8 +156,8 @@ fn search_in(
         }
         n -= 1;
         let k = 2 * (e.node as usize);
-        let first = sorts::at(links, k);
-        let count = sorts::at(links, k + 1);
+        let first = lists::at(links, k);
+        let count = lists::at(links, k + 1);
         if count > 0 {
             best = look(v, counts, starts, items, first, count, p, best);
         } else {

@@ -9,12 +9,13 @@ use lib.Seq.{sets}
 use lib.Ieee.{Float}
 use Rattle.boundary.specs.declared.Point.{Point}
 use Rattle.boundary.specs.Boxes.{pointInField}
-use Rattle.boundary.specs.Folds.{run}
+use Rattle.lists.specs.Lists.{run}
 use Rattle.accept.specs.declared.Test.the-variants.{Passed}
 use Rattle.accept.specs.Refusals.{pointTested}
 use Rattle.accept.proofs.TestLaws.{point-passed, room-passed}
 use Rattle.index.specs.Answers.{shortIndex}
-use Rattle.entries.proofs.StoreLaws.{length-run, run-at, sets-front}
+use Rattle.lists.proofs.StoreLaws.{sets-front}
+use Rattle.lists.proofs.RunLaws.{length-run, run-at}
 use Rattle.index.proofs.GrowLaws.{accepted-of}
 use Rattle.set.specs.Set.{startOf, setBoxes, Fit}
 use Rattle.set.specs.Tests.{setTested, setQueryTested}

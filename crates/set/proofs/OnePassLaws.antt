@@ -5,7 +5,7 @@ use mathlib.Core.List.{List, [], _∷_}
 use Prim.Native.Nat.{ℕ, _≤_, min}
 use native.Mathlib.Omega.{arith}
 use lib.Ieee.{Float}
-use Rattle.boundary.specs.Folds.{fold, any}
+use Rattle.lists.specs.Lists.{fold, any}
 use Rattle.accept.specs.declared.Refusal.the-variants.{NotFinite, OutsideField, EqualNeighbours, ZeroArea, NegativeArea}
 use Rattle.accept.specs.declared.Test.the-variants.{Passed, Failed}
 use Rattle.accept.specs.Refusals.{notFinite, outsideField, equalNeighbours, zeroArea, negativeArea, valuesTested, signTested}

@@ -14,10 +14,10 @@ use lib.Ieee.{Float, nan, binary64, fits}
 use Rattle.boundary.specs.declared.Point.{Point}
 use Rattle.boundary.specs.declared.Bounds.{Bounds}
 use Rattle.boundary.specs.Boxes.{inField, FieldValue, FieldBox}
-use Rattle.boundary.specs.Folds.{run, fold, any, oddly}
+use Rattle.lists.specs.Lists.{run, fold, any, oddly}
 use Rattle.boundary.specs.Outline.{count, vertices, edges}
-use Rattle.boundary.proofs.FoldLaws.{any-at}
-use Rattle.boundary.proofs.RunLaws.{run-last}
+use Rattle.lists.proofs.RunLaws.{run-last, length-run, run-at}
+use Rattle.lists.proofs.FoldLaws.{any-at, or-none, any-append, none-of}
 use Rattle.accept.specs.declared.Refusal.the-variants.{OddCount, BadCounts, TooFew, TooMany, NotFinite, OutsideField, EqualNeighbours, ZeroArea, NegativeArea}
 use Rattle.accept.specs.declared.Test.the-variants.{Passed}
 use Rattle.accept.specs.Refusals.{notFinite, outsideField, equalNeighbours, zeroArea, negativeArea}
@@ -26,12 +26,10 @@ use Rattle.geometry.specs.Polygon.{boundsOf, containsOf}
 use Rattle.entries.specs.Entries.{boxCount, boxAt, boxNumbers, boxesOf}
 use Rattle.boundary.specs.Boxes.{boxFits}
 use Rattle.index.specs.Answers.{boxesTested}
-use Rattle.entries.proofs.StoreLaws.{length-run, run-at, flat-length}
+use Rattle.lists.proofs.StoreLaws.{flat-length}
 use Rattle.entries.proofs.EntryLaws.{box-held}
-use Rattle.index.proofs.GrowLaws.{or-none}
 use Rattle.set.specs.Set.{startOf, outlineAt, outlinesOf, setBoxes, Fit}
 use Rattle.set.specs.Tests.{addsUp, anyFew, anyMany, overSize, outlinesTested, sizesTested, setTested}
-use Rattle.set.proofs.AnyLaws.{any-append, none-of}
 use Rattle.set.proofs.BoundsLaws.{InField, bounds-spanned, spanned-box, spanned-fits}
 
 -- ---- how many vertices stand before an outline

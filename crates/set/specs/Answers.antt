@@ -7,7 +7,8 @@ use lib.Ieee.{Float}
 use Rattle.number.specs.Exact.{zeroᶠ}
 use Rattle.boundary.specs.declared.Point.{Point}
 use Rattle.accept.specs.declared.Test.{Test}
-use Rattle.accept.specs.Lists.{zeros, writtenFor}
+use Rattle.lists.specs.Lists.{zeros}
+use Rattle.accept.specs.Lists.{writtenFor}
 use Rattle.set.specs.Set.{startOf, Fit}
 use Rattle.set.specs.Tests.{setQueryTested}
 

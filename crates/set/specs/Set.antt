@@ -6,7 +6,7 @@ use Prim.Native.Nat.{ℕ, zero, suc, _+_, _*_, _%_, _≤_, _<_}
 use lib.ListN.{length, getD, take, drop}
 use lib.Ieee.{Float}
 use Rattle.boundary.specs.Boxes.{inField}
-use Rattle.boundary.specs.Folds.{run, any}
+use Rattle.lists.specs.Lists.{run, any}
 use Rattle.boundary.specs.Outline.{count, vertices}
 use Rattle.geometry.specs.Polygon.{boundsOf}
 use Rattle.entries.specs.Entries.{boxNumbers}

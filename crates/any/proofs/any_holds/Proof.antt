@@ -7,9 +7,9 @@ use denote.Ref.{now}
 use lib.ListN.{length, getD, drop}
 use lib.Ieee.{Float}
 use Rattle.boundary.specs.declared.Point.{Point}
-use Rattle.boundary.specs.Folds.{fold, any}
+use Rattle.lists.specs.Lists.{fold, any}
 use Rattle.boundary.specs.Outline.{edges}
-use Rattle.boundary.proofs.FoldLaws.{fold-drop-end}
+use Rattle.lists.proofs.FoldLaws.{fold-drop-end}
 use Rattle.geometry.specs.Polygon.{containsOf}
 use Rattle.set.specs.Set.{outlineAt}
 use Rattle.any.proofs.AnyLaws.{step, found-at, missed-at}

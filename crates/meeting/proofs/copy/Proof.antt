@@ -2,7 +2,7 @@
 use Rattle.meeting.proofs.WalkLaws.{no-run, next-item}
 use Rattle.nodes.specs.Layout.{itemAt}
 use Rattle.meeting.specs.Walk.{Put}
-use Rattle.boundary.specs.Folds.{run}
+use Rattle.lists.specs.Lists.{run}
 use lib.ListN.{length}
 use native.Mathlib.Nat.{le-antisymm}
 use Prim.Native.Nat.{_≤_, _-_}

@@ -1,7 +1,7 @@
 -- `records::listed` meets its contract. Assumes nothing.
-use Rattle.records.proofs.RecordLaws.{listed-more}
+use Rattle.lists.proofs.RunLaws.{listed-more}
 use Rattle.records.specs.Records.{nodeIn}
-use Rattle.boundary.specs.Folds.{run}
+use Rattle.lists.specs.Lists.{run}
 use lib.ListN.{length, take, length-set}
 use Prim.Native.Nat.{_≤_, _-_}
 use mathlib.Core.Path.{_≡_, refl}
