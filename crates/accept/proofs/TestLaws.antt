@@ -13,10 +13,10 @@ use Rattle.boundary.specs.declared.Bounds.{Bounds}
 use Rattle.boundary.specs.Boxes.{pointInField}
 use Rattle.boundary.specs.Outline.{count}
 use Rattle.accept.specs.declared.Refusal.{Refusal}
-use Rattle.accept.specs.declared.Refusal.the-variants.{BadPoint}
+use Rattle.accept.specs.declared.Refusal.the-variants.{OddCount, TooFew, TooMany, NotFinite, OutsideField, EqualNeighbours, ZeroArea, NegativeArea, BadPoint}
 use Rattle.accept.specs.declared.Test.{Test}
 use Rattle.accept.specs.declared.Test.the-variants.{Passed, Failed}
-use Rattle.accept.specs.Refusals.{_refusing_when_, given, notFinite, outsideField, equalNeighbours, zeroArea, valuesTested, shapeTested, signTested, outlineTested, pointTested, cellTested, roomTested}
+use Rattle.accept.specs.Refusals.{_refusing_when_, given, notFinite, outsideField, equalNeighbours, zeroArea, negativeArea, countTested, valuesTested, shapeTested, outlineTested, pointTested, cellTested, roomTested}
 
 -- ---- one test
 abbrev failed : Test → Bool
@@ -26,14 +26,6 @@ failed (Failed r) = true
 pub never : {r : Refusal} → Failed r ≡ Passed → ⊥
 never e = true≢false (ap failed e)
 
-pub passes : (b : Bool) (r : Refusal) (t : Test) → cond b (Failed r) t ≡ Passed → (b ≡ false) × (t ≡ Passed)
-passes true r t e = absurd (never e)
-passes false r t e = (refl, e)
-
-pub passes-else : (b : Bool) (r : Refusal) (t : Test) → cond b t (Failed r) ≡ Passed → (b ≡ true) × (t ≡ Passed)
-passes-else true r t e = (refl, e)
-passes-else false r t e = absurd (never e)
-
 -- a test after those before it is passed where they and it are
 pub refusing-passed : (t : Test) (r : Refusal) (fails : Bool) → (t refusing r when fails) ≡ Passed → (t ≡ Passed) × (fails ≡ false)
 unfolding _refusing_when_
@@ -41,11 +33,32 @@ refusing-passed Passed r true e = absurd (never e)
 refusing-passed Passed r false e = (refl, refl)
 refusing-passed (Failed q) r fails e = absurd (never e)
 
--- ---- given a test: what a function gives of it
+-- ---- given a test
+pub given-passed : {A : Type 0} {t : Test} → t ≡ Passed → (a : A) (refused : Refusal → A) → given t a refused ≡ a
+unfolding given
+given-passed e a refused = rw e
+
+pub given-failed : {A : Type 0} {t : Test} {r : Refusal} → t ≡ Failed r → (a : A) (refused : Refusal → A) → given t a refused ≡ refused r
+unfolding given
+given-failed e a refused = rw e
+
+-- what a function gives of it
 pub given-map : {A B : Type 0} (f : A → B) (t : Test) (a : A) (refused : Refusal → A) → f (given t a refused) ≡ given t (f a) (λ r. f (refused r))
 unfolding given
 given-map f Passed a refused = refl
 given-map f (Failed r) a refused = refl
+
+-- what the test says
+pub given-itself : (t : Test) → given t Passed Failed ≡ t
+unfolding given
+given-itself Passed = refl
+given-itself (Failed r) = refl
+
+-- tests after those of t are passed where both are
+pub both-passed : (t u : Test) → given t u Failed ≡ Passed → (t ≡ Passed) × (u ≡ Passed)
+unfolding given
+both-passed Passed u e = (refl, e)
+both-passed (Failed r) u e = absurd (never e)
 
 -- ---- tests 1 and 3 to 8
 pub record Shape (v : List Float) : Type 0 where
@@ -57,34 +70,46 @@ pub record Shape (v : List Float) : Type 0 where
   pub apart : equalNeighbours v ≡ false
   pub nonzero : zeroArea v ≡ false
 
+count-passed : (v : List Float) → countTested v ≡ Passed → (eqb (length v % 2) 1 ≡ false) × (ltb (count v) 3 ≡ false) × (ltb 4096 (count v) ≡ false)
+unfolding countTested
+count-passed v e =
+    let t1 = Passed refusing OddCount when eqb (length v % 2) 1 in
+    let t3 = t1 refusing TooFew when ltb (count v) 3 in
+    let e4 = refusing-passed t3 TooMany (ltb 4096 (count v)) e in
+    let e3 = refusing-passed t1 TooFew (ltb (count v) 3) (e4 .0) in
+    (refusing-passed Passed OddCount (eqb (length v % 2) 1) (e3 .0) .1, e3 .1, e4 .1)
+
+values-passed : (v : List Float) → valuesTested v ≡ Passed → (notFinite v ≡ false) × (outsideField v ≡ false) × (equalNeighbours v ≡ false) × (zeroArea v ≡ false)
+unfolding valuesTested
+values-passed v e =
+    let t5 = Passed refusing NotFinite when notFinite v in
+    let t6 = t5 refusing OutsideField when outsideField v in
+    let t7 = t6 refusing EqualNeighbours when equalNeighbours v in
+    let e8 = refusing-passed t7 ZeroArea (zeroArea v) e in
+    let e7 = refusing-passed t6 EqualNeighbours (equalNeighbours v) (e8 .0) in
+    let e6 = refusing-passed t5 OutsideField (outsideField v) (e7 .0) in
+    (refusing-passed Passed NotFinite (notFinite v) (e6 .0) .1, e6 .1, e7 .1, e8 .1)
+
 pub shape : (v : List Float) → shapeTested v ≡ Passed → Shape v
-unfolding shapeTested valuesTested
+unfolding shapeTested
 shape v e =
-    let t1 = passes _ _ _ e in
-    let t3 = passes _ _ _ (t1 .1) in
-    let t4 = passes _ _ _ (t3 .1) in
-    let t5 = passes _ _ _ (t4 .1) in
-    let t6 = passes _ _ _ (t5 .1) in
-    let t7 = passes _ _ _ (t6 .1) in
-    let t8 = passes _ _ _ (t7 .1) in
-    record { even = t1 .0; enough = t3 .0; few = t4 .0; all-finite = t5 .0; all-in-field = t6 .0; apart = t7 .0; nonzero = t8 .0 }
+    let p = both-passed (countTested v) (valuesTested v) e in
+    let c = count-passed v (p .0) in
+    let n = values-passed v (p .1) in
+    record { even = c .0; enough = c .1; few = c .2; all-finite = n .0; all-in-field = n .1; apart = n .2; nonzero = n .3 }
 
 -- its size
 pub passed-size : (v : List Float) → shapeTested v ≡ Passed → count v ≤ 4096
 passed-size v e = ltb-false 4096 (count v) (shape v e .few)
 
 pub tested : {v : List Float} → Shape v → shapeTested v ≡ Passed
-unfolding shapeTested valuesTested
+unfolding shapeTested
 tested s = rw (s .even, s .enough, s .few, s .all-finite, s .all-in-field, s .apart, s .nonzero)
 
 -- ---- and test 9
 pub accepted : (v : List Float) → outlineTested v ≡ Passed → shapeTested v ≡ Passed
-unfolding outlineTested signTested
-accepted v e = go (shapeTested v) e
-  where
-    go : (t : Test) → signTested v t ≡ Passed → t ≡ Passed
-    go Passed e = refl
-    go (Failed r) e = absurd (never e)
+unfolding outlineTested
+accepted v e = refusing-passed (shapeTested v) NegativeArea (negativeArea v) e .0
 
 -- an accepted outline has vertices, all in the field
 pub accepted-field : (v : List Float) → outlineTested v ≡ Passed → (outsideField v ≡ false) × (0 < count v)
@@ -93,7 +118,15 @@ accepted-field v e =
     let three = ltb-false (count v) 3 (s .enough) in
     (s .all-in-field, omega arith)
 
--- ---- tests 10, 11 and 13
+-- ---- until every crate is moved
+pub passes : (b : Bool) (r : Refusal) (t : Test) → cond b (Failed r) t ≡ Passed → (b ≡ false) × (t ≡ Passed)
+passes true r t e = absurd (never e)
+passes false r t e = (refl, e)
+
+pub passes-else : (b : Bool) (r : Refusal) (t : Test) → cond b t (Failed r) ≡ Passed → (b ≡ true) × (t ≡ Passed)
+passes-else true r t e = (refl, e)
+passes-else false r t e = absurd (never e)
+
 pub point-passed : (p : Point) (t : Test) → pointTested p t ≡ Passed → (pointInField p ≡ true) × (t ≡ Passed)
 unfolding pointTested
 point-passed p Passed e = passes-else (pointInField p) BadPoint Passed e

@@ -2,11 +2,11 @@
 
 -- An outline's area.
 pub mod Area
--- The tests that an outline, a point, a cell and a buffer go through, in document 01's order.
+-- Tests one after the other, what stands given them, and those of an outline, in document 01's order.
 pub mod Refusals
 -- What the tests of an outline hand over: its area too.
 pub mod Verdicts
--- What an operation answers, and the paper's number and values for it.
+-- What an operation answers, its fields, and all that a call leaves.
 pub mod Answers
 -- Lent lists, as a call leaves them.
 pub mod Lists

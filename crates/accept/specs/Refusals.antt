@@ -1,4 +1,4 @@
--- The tests that an outline, a point, a cell and a buffer go through, in document 01's order, each over the whole outline before the next. Definitions only.
+-- A test after those before it, what stands given a test, and the tests of an outline in document 01's order, each over the whole outline before the next. Definitions only.
 use mathlib.Core.Bool.{Bool, not, _&&_, cond}
 use mathlib.Core.List.{List}
 use Prim.Native.Nat.{ℕ, _%_}
@@ -74,36 +74,39 @@ abbrev pub negativeArea : List Float → Bool
 negativeArea v = lt (areaOf (edges v)) zeroᶠ
 
 -- ---- the tests of an outline
+-- 1, 3 and 4
+unfoldable pub countTested : List Float → Test
+unfolding _refusing_when_
+countTested v =
+    Passed refusing OddCount when eqb (length v % 2) 1
+    refusing TooFew when ltb (count v) 3
+    refusing TooMany when ltb 4096 (count v)
+
 -- 5 to 8
 unfoldable pub valuesTested : List Float → Test
-unfolding any neg le eq edges areaOf
+unfolding _refusing_when_ any neg le eq edges areaOf
 valuesTested v =
-    cond (notFinite v) (Failed NotFinite)
-    (cond (outsideField v) (Failed OutsideField)
-    (cond (equalNeighbours v) (Failed EqualNeighbours)
-    (cond (zeroArea v) (Failed ZeroArea) Passed)))
+    Passed refusing NotFinite when notFinite v
+    refusing OutsideField when outsideField v
+    refusing EqualNeighbours when equalNeighbours v
+    refusing ZeroArea when zeroArea v
 
 -- 1 and 3 to 8
 unfoldable pub shapeTested : List Float → Test
-unfolding valuesTested
-shapeTested v =
-    cond (eqb (length v % 2) 1) (Failed OddCount)
-    (cond (ltb (count v) 3) (Failed TooFew)
-    (cond (ltb 4096 (count v)) (Failed TooMany)
-    (valuesTested v)))
+unfolding given countTested valuesTested
+shapeTested v = given (countTested v) (valuesTested v) Failed
 
+-- and 9: those of a query's outline
+unfoldable pub outlineTested : List Float → Test
+unfolding _refusing_when_ shapeTested lt edges areaOf
+outlineTested v = shapeTested v refusing NegativeArea when negativeArea v
+
+-- ---- until every crate is moved
 -- 9, after t of those before it
 unfoldable pub signTested : List Float → Test → Test
-unfolding lt edges areaOf
-signTested v Passed = cond (negativeArea v) (Failed NegativeArea) Passed
-signTested v (Failed r) = Failed r
+unfolding _refusing_when_ lt edges areaOf
+signTested v t = t refusing NegativeArea when negativeArea v
 
--- those of a query's outline
-unfoldable pub outlineTested : List Float → Test
-unfolding shapeTested signTested
-outlineTested v = signTested v (shapeTested v)
-
--- ---- the tests of what a call takes besides, each after t of those before it
 -- 10: the point is outside the field or not finite
 unfoldable pub pointTested : Point → Test → Test
 unfolding neg le

@@ -1,14 +1,114 @@
 // What an answer puts into the fields of a call: a refusal gives its number, and
 // zeros.
 ghost use mathlib.Core.Path.{_≡_};
-ghost use Rattle.accept.specs.Answers.{numberOf, toldOf, measureOf, zeroBox, boxOf, zeroDistance, awayOf};
+ghost use Rattle.accept.specs.Answers.{noCount, countFields, noMeasure, measureFields, noBox, boxFields, noDistance, distanceFields, numberOf, toldOf};
 use crate::Answer;
+use crate::BoxFields;
+use crate::CountFields;
+use crate::DistanceFields;
+use crate::MeasureFields;
 use crate::refusals;
 use boundary::Bounds;
 use boundary::Distance;
 use boundary::Point;
 
-// What a call returns.
+fn no_count(number: u32) -> CountFields
+    ensures { λ r. ⌜ r ≡ noCount number ⌝ }
+{
+    CountFields { number, count: 0 }
+}
+
+// A count, a flag or a location.
+pub fn count_fields(a: Answer) -> CountFields
+    ensures { λ r. ⌜ r ≡ countFields a ⌝ }
+{
+    match a {
+        Answer::Refused(r) => no_count(refusals::number_of(r)),
+        Answer::Told(n) => CountFields {
+            number: 0,
+            count: n,
+        },
+        Answer::Measure(_) => no_count(0),
+        Answer::Box(_) => no_count(0),
+        Answer::Away(_) => no_count(0),
+    }
+}
+
+fn no_measure(number: u32) -> MeasureFields
+    ensures { λ r. ⌜ r ≡ noMeasure number ⌝ }
+{
+    MeasureFields {
+        number,
+        measure: 0.0,
+    }
+}
+
+pub fn measure_fields(a: Answer) -> MeasureFields
+    ensures { λ r. ⌜ r ≡ measureFields a ⌝ }
+{
+    match a {
+        Answer::Refused(r) => no_measure(refusals::number_of(r)),
+        Answer::Told(_) => no_measure(0),
+        Answer::Measure(x) => MeasureFields {
+            number: 0,
+            measure: x,
+        },
+        Answer::Box(_) => no_measure(0),
+        Answer::Away(_) => no_measure(0),
+    }
+}
+
+fn no_box(number: u32) -> BoxFields
+    ensures { λ r. ⌜ r ≡ noBox number ⌝ }
+{
+    let bounds = Bounds {
+        min: Point { x: 0.0, y: 0.0 },
+        max: Point { x: 0.0, y: 0.0 },
+    };
+    BoxFields { number, bounds }
+}
+
+pub fn box_fields(a: Answer) -> BoxFields
+    ensures { λ r. ⌜ r ≡ boxFields a ⌝ }
+{
+    match a {
+        Answer::Refused(r) => no_box(refusals::number_of(r)),
+        Answer::Told(_) => no_box(0),
+        Answer::Measure(_) => no_box(0),
+        Answer::Box(b) => BoxFields {
+            number: 0,
+            bounds: b,
+        },
+        Answer::Away(_) => no_box(0),
+    }
+}
+
+fn no_distance(number: u32) -> DistanceFields
+    ensures { λ r. ⌜ r ≡ noDistance number ⌝ }
+{
+    let distance = Distance {
+        d: 0.0,
+        v: Point { x: 0.0, y: 0.0 },
+    };
+    DistanceFields { number, distance }
+}
+
+pub fn distance_fields(a: Answer) -> DistanceFields
+    ensures { λ r. ⌜ r ≡ distanceFields a ⌝ }
+{
+    match a {
+        Answer::Refused(r) => no_distance(refusals::number_of(r)),
+        Answer::Told(_) => no_distance(0),
+        Answer::Measure(_) => no_distance(0),
+        Answer::Box(_) => no_distance(0),
+        Answer::Away(d) => DistanceFields {
+            number: 0,
+            distance: d,
+        },
+    }
+}
+
+// Until every crate is moved.
 pub fn number_of(a: Answer) -> u32
     ensures { λ r. ⌜ r ≡ numberOf a ⌝ }
 {
@@ -21,7 +121,6 @@ pub fn number_of(a: Answer) -> u32
     }
 }
 
-// A count, a flag or a location.
 pub fn told_of(a: Answer) -> u32
     ensures { λ r. ⌜ r ≡ toldOf a ⌝ }
 {
@@ -31,59 +130,5 @@ pub fn told_of(a: Answer) -> u32
         Answer::Measure(_) => 0,
         Answer::Box(_) => 0,
         Answer::Away(_) => 0,
-    }
-}
-
-pub fn measure_of(a: Answer) -> f64
-    ensures { λ r. ⌜ r ≡ measureOf a ⌝ }
-{
-    match a {
-        Answer::Refused(_) => 0.0,
-        Answer::Told(_) => 0.0,
-        Answer::Measure(x) => x,
-        Answer::Box(_) => 0.0,
-        Answer::Away(_) => 0.0,
-    }
-}
-
-fn zero_box() -> Bounds
-    ensures { λ r. ⌜ r ≡ zeroBox ⌝ }
-{
-    Bounds {
-        min: Point { x: 0.0, y: 0.0 },
-        max: Point { x: 0.0, y: 0.0 },
-    }
-}
-
-pub fn box_of(a: Answer) -> Bounds
-    ensures { λ r. ⌜ r ≡ boxOf a ⌝ }
-{
-    match a {
-        Answer::Refused(_) => zero_box(),
-        Answer::Told(_) => zero_box(),
-        Answer::Measure(_) => zero_box(),
-        Answer::Box(b) => b,
-        Answer::Away(_) => zero_box(),
-    }
-}
-
-fn zero_distance() -> Distance
-    ensures { λ r. ⌜ r ≡ zeroDistance ⌝ }
-{
-    Distance {
-        d: 0.0,
-        v: Point { x: 0.0, y: 0.0 },
-    }
-}
-
-pub fn away_of(a: Answer) -> Distance
-    ensures { λ r. ⌜ r ≡ awayOf a ⌝ }
-{
-    match a {
-        Answer::Refused(_) => zero_distance(),
-        Answer::Told(_) => zero_distance(),
-        Answer::Measure(_) => zero_distance(),
-        Answer::Box(_) => zero_distance(),
-        Answer::Away(d) => d,
     }
 }

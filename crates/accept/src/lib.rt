@@ -44,3 +44,25 @@ pub enum Answer {
     Box(Bounds),
     Away(Distance),
 }
+
+// The fields of an answer: what the call returns, and what it puts into the fields that it is lent. A count, a
+// flag or a location.
+pub struct CountFields {
+    pub number: u32,
+    pub count: u32,
+}
+
+pub struct MeasureFields {
+    pub number: u32,
+    pub measure: f64,
+}
+
+pub struct BoxFields {
+    pub number: u32,
+    pub bounds: Bounds,
+}
+
+pub struct DistanceFields {
+    pub number: u32,
+    pub distance: Distance,
+}

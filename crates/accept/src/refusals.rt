@@ -1,17 +1,18 @@
-// The tests of an outline, a point, a cell and a buffer, in document 01's order. An outline's area, which
+// The tests of an outline in document 01's order, and a test after those before it. An outline's area, which
 // the tests work out, is handed over with what they say.
 ghost use mathlib.Core.Path.{_≡_};
 ghost use mathlib.Core.Bool.{false, not, cond};
 ghost use mathlib.Core.List.{List};
 ghost use lib.Ieee.{Float, binary64, add, div};
 ghost use lib.Ieee.Scale.{finite};
-ghost use Rattle.boundary.specs.Boxes.{inField, boxFits};
+ghost use Rattle.boundary.specs.Boxes.{inField, pointInField, boxFits};
 ghost use Rattle.lists.specs.Lists.{any};
 ghost use Rattle.boundary.specs.Outline.{edges};
 ghost use Rattle.accept.specs.declared.Test.{Test};
 ghost use Rattle.accept.specs.Area.{crossOf, two, areaOf};
-ghost use Rattle.accept.specs.Refusals.{_refusing_when_, number, samePoint, equalNeighbours, valuesTested, shapeTested, outlineTested, signTested, pointTested, cellTested, roomTested};
-ghost use Rattle.accept.specs.Verdicts.{verdictOf, edgesVerdict, testOf};
+ghost use Rattle.accept.specs.declared.Verdict.the-variants.{Area, TurnedAway};
+ghost use Rattle.accept.specs.Refusals.{_refusing_when_, given, number, samePoint, equalNeighbours, valuesTested, shapeTested, outlineTested, signTested, pointTested, cellTested, roomTested};
+ghost use Rattle.accept.specs.Verdicts.{edgesVerdict, testOf};
 use crate::Refusal;
 use crate::Test;
 use crate::Verdict;
@@ -55,6 +56,12 @@ pub fn in_field(x: f64) -> bool
     ensures { λ r. ⌜ r ≡ inField x ⌝ }
 {
     (-LIMIT <= x) & (x <= LIMIT)
+}
+
+pub fn point_in_field(p: Point) -> bool
+    ensures { λ r. ⌜ r ≡ pointInField p ⌝ }
+{
+    in_field(p.x) & in_field(p.y)
 }
 
 // Whether a box is in the field, and no minimum is above its maximum.
@@ -145,7 +152,7 @@ fn edges_tested(v: &[f64]) -> Verdict
 
 // Tests 5 to 8. What is not finite is outside the field too, so one pass tells that both pass.
 pub fn values_tested(v: &[f64]) -> Verdict
-    ensures { λ r. ⌜ r ≡ verdictOf (valuesTested (now (v .entry))) (areaOf (edges (now (v .entry)))) ⌝ }
+    ensures { λ r. ⌜ r ≡ given (valuesTested (now (v .entry))) (Area (areaOf (edges (now (v .entry))))) TurnedAway ⌝ }
 {
     if any_unfit(v, false) {
         if any_unfit(v, true) {
@@ -158,7 +165,7 @@ pub fn values_tested(v: &[f64]) -> Verdict
 
 // Tests 1 and 3 to 8.
 pub fn shape_tested(v: &[f64]) -> Verdict
-    ensures { λ r. ⌜ r ≡ verdictOf (shapeTested (now (v .entry))) (areaOf (edges (now (v .entry)))) ⌝ }
+    ensures { λ r. ⌜ r ≡ given (shapeTested (now (v .entry))) (Area (areaOf (edges (now (v .entry))))) TurnedAway ⌝ }
 {
     let n = v.len() / 2;
     if v.len() % 2 == 1 {
@@ -175,7 +182,8 @@ pub fn shape_tested(v: &[f64]) -> Verdict
 
 // Test 9, after those that handed t over.
 pub fn sign_tested(t: Verdict) -> Verdict
-    ensures { λ r. ⌜ ((v : List Float) (s : Test) → t ≡ verdictOf s (areaOf (edges v)) → r ≡ verdictOf (signTested v s) (areaOf (edges v))) ⌝ }
+    ensures { λ r. ⌜ ((v : List Float) (s : Test) → t ≡ given s (Area (areaOf (edges v))) TurnedAway
+        → r ≡ given (signTested v s) (Area (areaOf (edges v))) TurnedAway) ⌝ }
 {
     match t {
         Verdict::Area(a) => {
@@ -191,7 +199,7 @@ pub fn sign_tested(t: Verdict) -> Verdict
 
 // The tests of a query's outline, 1 to 9, with its area.
 pub fn outline_verdict(v: &[f64]) -> Verdict
-    ensures { λ r. ⌜ r ≡ verdictOf (outlineTested (now (v .entry))) (areaOf (edges (now (v .entry)))) ⌝ }
+    ensures { λ r. ⌜ r ≡ given (outlineTested (now (v .entry))) (Area (areaOf (edges (now (v .entry))))) TurnedAway ⌝ }
 {
     sign_tested(shape_tested(v))
 }
@@ -223,6 +231,7 @@ pub fn refusing(t: Test, r: Refusal, fails: bool) -> Test
     }
 }
 
+// Until every crate is moved.
 // Test 10, after those of the outline or of the set.
 pub fn point_tested(p: Point, t: Test) -> Test
     ensures { λ r. ⌜ r ≡ pointTested p t ⌝ }

@@ -18,9 +18,8 @@ use Rattle.boundary.specs.Outline.{edges}
 use Rattle.accept.specs.declared.Answer.the-variants.{Away}
 use Rattle.geometry.specs.Polygon.{containsOf}
 use Rattle.accept.specs.declared.Test.the-variants.{Passed}
-use Rattle.accept.specs.Refusals.{pointTested, roomTested}
-use Rattle.accept.specs.Answers.{answerFor}
-use Rattle.geometry.specs.Answers.{distanceAnswer}
+use Rattle.accept.specs.Refusals.{_refusing_when_, given, pointTested, roomTested}
+use Rattle.geometry.specs.Answers.{queryTested, distanceAnswer}
 use Rattle.set.specs.Set.{outlineAt}
 use Rattle.index.specs.Answers.{shortIndex}
 use Rattle.set.specs.Tests.{setTested, setQueryTested}
@@ -41,7 +40,7 @@ use Rattle.demand.proofs.OutlineLaws.{outline-passes, outline-on}
 module _ (v : List Float) (cs : List ℕ) (passed : setTested v cs ≡ Passed) (some : 0 < length cs) (grid : OutlineOn v) {p : Point} {q : PointZ} (on : PointOn p q) where
   -- the distance that the call answers is the one whose magnitude is taken
   magnitude-is : (k : ℕ) → k < length cs → (d : Distance) → distanceAnswer (outlineAt v cs k) p ≡ Away d → magnitudeAt v cs p k ≡ absOf (d .d)
-  unfolding magnitudeOf distanceAnswer answerFor pointTested
+  unfolding magnitudeOf distanceAnswer queryTested given _refusing_when_
   magnitude-is k l d e =
       let o = outlineAt v cs k in
       let s = signedOf (nearestOf (edges o) p) p (containsOf (edges o) p) in

@@ -11,7 +11,7 @@ use Rattle.lists.specs.Lists.{run, any, Each}
 use Rattle.boundary.specs.Outline.{count}
 use Rattle.lists.proofs.FoldLaws.{any-at}
 use Rattle.accept.specs.declared.Test.the-variants.{Passed}
-use Rattle.accept.specs.Refusals.{notFinite, outsideField, equalNeighbours, zeroArea, negativeArea, outlineTested, signTested}
+use Rattle.accept.specs.Refusals.{notFinite, outsideField, equalNeighbours, zeroArea, negativeArea, outlineTested}
 use Rattle.accept.proofs.TestLaws.{Shape, tested}
 use Rattle.lists.proofs.RunLaws.{length-run, run-at}
 use Rattle.set.specs.Set.{startOf, outlineAt, outlinesOf}
@@ -35,7 +35,7 @@ module _ (v : List Float) (cs : List ℕ) (passed : setTested v cs ≡ Passed) (
       sym (ap P (run-at (outlineAt v cs) 0 (length cs) k [] l ∙ ap (outlineAt v cs) z)) ∙ any-at P [] (run (outlineAt v cs) 0 (length cs)) k (omega arith) h
 
   pub outline-passes : outlineTested (outlineAt v cs k) ≡ Passed
-  unfolding outlineTested signTested
+  unfolding outlineTested
   outline-passes =
       let fit = passed-fit v cs passed in
       let t = passing v cs passed in

@@ -24,12 +24,13 @@ use Rattle.lists.specs.Lists.{any, atFront, Each}
 use Rattle.boundary.specs.Outline.{count, vertexAt, vertices, edges}
 use Rattle.accept.specs.declared.Test.{Test}
 use Rattle.accept.specs.declared.Test.the-variants.{Passed, Failed}
+use Rattle.accept.specs.declared.Answer.{Answer}
 use Rattle.accept.specs.declared.Answer.the-variants.{Told}
+use Rattle.accept.specs.declared.Refusal.the-variants.{ShortBuffer}
 use Rattle.accept.specs.Area.{areaOf}
-use Rattle.accept.specs.Refusals.{samePoint, negativeArea, shapeTested, signTested, outlineTested}
-use Rattle.accept.specs.Answers.{answerFor}
-use Rattle.geometry.specs.Making.{kept, keptCount, numbers, turned, makeTested, makeAnswer, madeList}
-use Rattle.accept.specs.Lists.{writtenFor}
+use Rattle.accept.specs.Refusals.{given, samePoint, negativeArea, shapeTested, outlineTested}
+use Rattle.accept.specs.Answers.{Outcome, refusedWith}
+use Rattle.geometry.specs.Making.{kept, keptCount, numbers, turned, makeTested, madeOf, makeOutcome}
 use Rattle.grid.specs.Grid.{OutlineOn}
 use Rattle.grid.specs.Whole.{PointZ, EdgeZ, edgeZ, crossZ, shoelaceZ}
 use Rattle.exact.specs.Grid.{PointOn, EdgeOn, EdgesOn}
@@ -41,7 +42,7 @@ use Rattle.exact.proofs.Loop.{loop, edges-loop}
 use Rattle.exact.proofs.Turned.{loop-turned}
 use Rattle.exact.proofs.Numbers.{length-numbers, vertices-numbers, numbers-vertices, numbers-on}
 use Rattle.exact.proofs.WholeEdges.{loop-on, vertices-on}
-use Rattle.accept.proofs.TestLaws.{Shape, shape, tested, room-passed}
+use Rattle.accept.proofs.TestLaws.{Shape, shape, tested, refusing-passed}
 use Rattle.exact.proofs.Tests.{grid-finite, grid-in-field}
 use Rattle.exact.proofs.Area.{area-exact}
 use Rattle.exact.proofs.OneOutline.{few-edges}
@@ -123,7 +124,7 @@ module _ {w : List Float} {qs : List PointZ} (s : Shape w) (r : Each PointOn (ve
         }
 
     back-accepted : outlineTested back ≡ Passed
-    unfolding outlineTested signTested
+    unfolding outlineTested
     back-accepted = rw (tested back-shape, lt-is back-area (zero-is 21), lt-false (<ℤ→≤ℤ above))
 
     back-magnitude : {z : ℤ} → Is 21 (areaOf (edges w)) z → Is 21 (areaOf (edges back)) (absℤ z)
@@ -132,8 +133,8 @@ module _ {w : List Float} {qs : List PointZ} (s : Shape w) (r : Each PointOn (ve
         subst (Is 21 (areaOf (edges back))) (sym (nonneg-nat (<ℤ→≤ℤ above)) ∙ ap pos (natAbs-neg total ∙ ap natAbs (sym same))) back-area
 
 -- ---- the theorem
-pub made-accepted : {v : List Float} (out : List Float) {n : ℕ} → OutlineOn v → makeAnswer v (length out) ≡ Told n → MadeOn v (take (2 * n) (madeList v out))
-unfolding makeAnswer answerFor madeList writtenFor atFront turned outlineTested signTested
+pub made-accepted : {v : List Float} (out : List Float) {n : ℕ} → OutlineOn v → makeOutcome v out .answer ≡ Told n → MadeOn v (take (2 * n) (makeOutcome v out .lent))
+unfolding makeOutcome given madeOf kept atFront turned outlineTested
 made-accepted {v} out {n} g e = go (makeTested v (length out)) refl e
   where
     w : List Float
@@ -157,9 +158,12 @@ made-accepted {v} out {n} g e = go (makeTested v (length out)) refl e
     length-turned false = length-vertices w
 
     passed : makeTested v (length out) ≡ Passed → shapeTested w ≡ Passed
-    passed t = room-passed _ (shapeTested w) (unfold makeTested in t) .1
+    passed t = refusing-passed (shapeTested w) ShortBuffer (ltb (length out) (length v)) (unfold makeTested in t) .0
 
-    go : (t : Test) → makeTested v (length out) ≡ t → answerFor t (Told (count w)) ≡ Told n → MadeOn v (take (2 * n) (writtenFor (numbers (turned (negativeArea w) (vertices w))) out t))
+    left : Test → Outcome Answer (List Float)
+    left t = given t (record { answer = Told (count w); lent = atFront (madeOf v) out }) (refusedWith out)
+
+    go : (t : Test) → makeTested v (length out) ≡ t → left t .answer ≡ Told n → MadeOn v (take (2 * n) (left t .lent))
     go (Failed r) t e = absurd (let z : _≡_ {A = ℕ} 0 1 = cc in omega arith)
     go Passed t e =
         let k : count w ≡ n = cc in

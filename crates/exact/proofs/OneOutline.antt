@@ -12,9 +12,8 @@ use Rattle.boundary.specs.Outline.{count, edgeAt, edges}
 use Rattle.distance.specs.Nearest.{nearestOf, signedOf}
 use Rattle.accept.specs.declared.Test.the-variants.{Passed}
 use Rattle.geometry.specs.Polygon.{containsOf}
-use Rattle.accept.specs.Refusals.{outlineTested, pointTested}
-use Rattle.accept.specs.Answers.{answerFor}
-use Rattle.geometry.specs.Answers.{areaAnswer, locateAnswer, distanceAnswer}
+use Rattle.accept.specs.Refusals.{_refusing_when_, given, outlineTested}
+use Rattle.geometry.specs.Answers.{queryTested, areaAnswer, locateAnswer, distanceAnswer}
 use Rattle.grid.specs.Grid.{OutlineOn}
 use Rattle.exact.specs.OneOutline.{GridExact}
 use Rattle.exact.proofs.Area.{area-exact}
@@ -34,7 +33,7 @@ unfolding edges
 some-edges v h = rw (length-run (edgeAt v) 0 (count v)) (let l = ltb-false (count v) 3 h in omega arith)
 
 pub grid-exact : {v : List Float} → OutlineOn v → outlineTested v ≡ Passed → GridExact v
-unfolding areaAnswer locateAnswer distanceAnswer answerFor pointTested
+unfolding areaAnswer queryTested locateAnswer distanceAnswer given _refusing_when_
 grid-exact {v} g e =
     let s = shape v (accepted v e) in
     let w = edges-on g in

@@ -13,7 +13,7 @@ use Rattle.boundary.specs.declared.Bounds.{Bounds}
 use Rattle.boundary.specs.declared.Near.{Near}
 use Rattle.boundary.specs.declared.Distance.{Distance}
 use Rattle.boundary.specs.Boxes.{boxFits, hull, scaleOf, widenedOf}
-use Rattle.lists.specs.Lists.{run, fold, any, oddly, total}
+use Rattle.lists.specs.Lists.{run, fold, any, oddly, total, atFront, zeros}
 use Rattle.boundary.specs.Outline.{vertices, edges}
 use Rattle.boundary.specs.Length.{edgeLength, lengthOf}
 use Rattle.boundary.specs.Line.{paramOf, alongOf, footOf, normalOf, lineNear}
@@ -24,16 +24,16 @@ use Rattle.accept.specs.declared.Answer.{Answer}
 use Rattle.accept.specs.declared.Answer.the-variants.{Refused, Told, Measure, Away}
 use Rattle.accept.specs.declared.Refusal.the-variants.{ZeroArea}
 use Rattle.accept.specs.declared.Test.the-variants.{Passed}
-use Rattle.accept.specs.Answers.{answerFor}
-use Rattle.geometry.specs.Answers.{areaAnswer, perimeterAnswer, containsAnswer, locateAnswer, distanceAnswer}
+use Rattle.accept.specs.Answers.{away}
+use Rattle.geometry.specs.Answers.{queryTested, areaAnswer, perimeterAnswer, containsAnswer, locateAnswer, distanceAnswer}
 use Rattle.accept.specs.Area.{areaOf}
 use Rattle.geometry.specs.Polygon.{containsOf, crossesOf, locateOf, onEdge}
-use Rattle.accept.specs.Refusals.{outlineTested, signTested, shapeTested, valuesTested, pointTested, cellTested, roomTested}
-use Rattle.geometry.specs.Making.{makeTested, madeList}
+use Rattle.accept.specs.Refusals.{_refusing_when_, given, countTested, valuesTested, shapeTested, outlineTested, pointTested}
+use Rattle.geometry.specs.Making.{closed, keptCount, kept, makeTested, numbers, madeOf, makeOutcome}
 use Rattle.oval.specs.Ellipse.{offsetFits, ellipseFits, ellipseTested, ellipseAnswer}
 use Rattle.clip.specs.Clip.{inside, crosses, partOf, partsOf, parts, lead, lastKept, turned, keptLines, joint, onward, joined, clipOf}
 use Rattle.fill.specs.Fill.{xdyOf, fillOf, longOf}
-use Rattle.fill.specs.Answers.{fillTested, filled, fillAnswer}
+use Rattle.fill.specs.Answers.{fillTested, filled, fillOutcome}
 use Rattle.sorts.specs.Sort.{insert, sort}
 use Rattle.entries.specs.Entries.{boxAt, wideAt}
 use Rattle.splits.specs.Tree.{hullOf, treeOn, indexOf}
@@ -62,10 +62,6 @@ abbrev pub tenths : ℕ → Float
 unfolding div
 tenths n = div binary64 (um n) (um 10)
 
--- a distance and its normal, or its nearest point
-abbrev pub away : Float → Float → Float → Distance
-away d x y = record { d = d; v = record { x = x; y = y } }
-
 -- the square of the examples
 abbrev pub S : List Float
 S = list (0 ∷ 0 ∷ 4 ∷ 0 ∷ 4 ∷ 4 ∷ 0 ∷ 4 ∷ [])
@@ -85,6 +81,10 @@ boxes = list (0 ∷ 0 ∷ 1 ∷ 1 ∷ 10 ∷ 10 ∷ 11 ∷ 11 ∷ [])
 -- min x, min y, max x, max y
 abbrev pub cell : ℕ → ℕ → ℕ → ℕ → Bounds
 cell x y z t = record { min = at x y; max = at z t }
+
+-- the fill, with a buffer of 64 numbers
+abbrev pub filled-by : List Float → Bounds → Answer
+filled-by v c = fillOutcome v c (zeros (um 0) 64) .answer
 
 -- S moved 10 right, and the set of both
 abbrev pub S-right : List Float
@@ -125,15 +125,15 @@ starred =
     ∷ (answers (distanceAnswer S (at 7 8)) ⊢ answers (Away (away (um 5) (tenths 6) (tenths 8))))
     ∷ (answers (areaAnswer S) ⊢ answers (Measure (um 16)))
     ∷ (answers (perimeterAnswer S) ⊢ answers (Measure (um 16)))
-    ∷ (leaves (madeList S-back S-back) ⊢ leaves (list (4 ∷ 0 ∷ 4 ∷ 4 ∷ 0 ∷ 4 ∷ 0 ∷ 0 ∷ [])))
+    ∷ (leaves (makeOutcome S-back S-back .lent) ⊢ leaves (list (4 ∷ 0 ∷ 4 ∷ 4 ∷ 0 ∷ 4 ∷ 0 ∷ 0 ∷ [])))
     ∷ (answers (locateAnswer S (at 4 2)) ⊢ answers (Told 1))
     ∷ (answers (containsAnswer S (at 4 2)) ⊢ answers (Told 0))
     ∷ (answers (locateAnswer S (at 0 2)) ⊢ answers (Told 1))
     ∷ (answers (containsAnswer S (at 0 2)) ⊢ answers (Told 1))
     ∷ (answers (containsAnswer S (at 2 0)) ⊢ answers (Told 1))
     ∷ (answers (containsAnswer S (at 2 4)) ⊢ answers (Told 0))
-    ∷ (answers (fillAnswer S (cell 1 1 3 6) 64) ⊢ answers (Measure (um 6)))
-    ∷ (answers (fillAnswer S (cell 5 5 6 6) 64) ⊢ answers (Measure (um 0)))
+    ∷ (answers (filled-by S (cell 1 1 3 6)) ⊢ answers (Measure (um 6)))
+    ∷ (answers (filled-by S (cell 5 5 6 6)) ⊢ answers (Measure (um 0)))
     ∷ (answers (areaAnswer (list (0 ∷ 0 ∷ 1 ∷ 0 ∷ 2 ∷ 0 ∷ []))) ⊢ answers (Refused ZeroArea))
     ∷ (answers (areaAnswer (list (0 ∷ 0 ∷ 2 ∷ 2 ∷ 2 ∷ 0 ∷ 0 ∷ 2 ∷ []))) ⊢ answers (Refused ZeroArea))
     ∷ (answers (on-ellipse (record { x = um 0; y = neg (um 0) })) ⊢ answers (Away (away (um 1) (um 0) (neg (um 1)))))
@@ -183,15 +183,15 @@ in-tenths : Away (away (um 5) (fin false 5404319552844595 (negsuc 52)) (fin fals
 in-tenths = rw (six-tenths, eight-tenths)
 
 distance-6 : distanceAnswer S (at 6 2) ≡ Away (away (um 2) (um 1) (um 0))
-unfolding distanceAnswer answerFor outlineTested signTested shapeTested valuesTested pointTested areaOf containsOf crossesOf oddly any fold run edges add sub mul div neg lt le eq ofInt
+unfolding distanceAnswer queryTested given _refusing_when_ outlineTested shapeTested countTested valuesTested areaOf containsOf crossesOf oddly any fold run edges add sub mul div neg lt le eq ofInt
 distance-6 = signed-at (at 6 2) false _ _ nearest-6 signed-6
 
 distance-1 : distanceAnswer S (at 1 2) ≡ Away (away (neg (um 1)) (neg (um 1)) (neg (um 0)))
-unfolding distanceAnswer answerFor outlineTested signTested shapeTested valuesTested pointTested areaOf containsOf crossesOf oddly any fold run edges add sub mul div neg lt le eq ofInt
+unfolding distanceAnswer queryTested given _refusing_when_ outlineTested shapeTested countTested valuesTested areaOf containsOf crossesOf oddly any fold run edges add sub mul div neg lt le eq ofInt
 distance-1 = signed-at (at 1 2) true _ _ nearest-1 signed-1
 
 distance-7 : distanceAnswer S (at 7 8) ≡ Away (away (um 5) (tenths 6) (tenths 8))
-unfolding distanceAnswer answerFor outlineTested signTested shapeTested valuesTested pointTested areaOf containsOf crossesOf oddly any fold run edges add sub mul div neg lt le eq ofInt
+unfolding distanceAnswer queryTested given _refusing_when_ outlineTested shapeTested countTested valuesTested areaOf containsOf crossesOf oddly any fold run edges add sub mul div neg lt le eq ofInt
 distance-7 = signed-at (at 7 8) false _ _ nearest-7 signed-7 ∙ in-tenths
 
 -- the nearest of two outlines: the magnitude of each first
@@ -245,5 +245,5 @@ also e es = rw (e, es)
 
 -- every example holds
 pub starred-hold : map (λ (e : Example). e .gives) starred ≡ map (λ (e : Example). e .said) starred
-unfolding starred areaAnswer perimeterAnswer containsAnswer locateAnswer madeList makeTested answerFor outlineTested signTested shapeTested valuesTested pointTested areaOf containsOf crossesOf locateOf onEdge lengthOf edgeLength ellipseAnswer ellipseTested ellipseFits offsetFits pieceNear ellipseNear ellipseFoot ellipseNearest longNearest quadrantNearest onAxis copysignOf absOf withSign signBit maxOf before hypotOf sqrtOf total any oddly fold run edges vertices add sub mul div neg lt le eq ofInt fillAnswer fillTested roomTested cellTested boxFits filled longOf fillOf xdyOf clipOf joined onward joint keptLines turned lastKept lead parts partsOf partOf crosses inside Rattle.clip.specs.Clip.at alongOf flatMap ne meetingOf apart indexOf treeOn hullOf hull wideAt boxAt widenedOf scaleOf sort insert isNan
+unfolding starred areaAnswer perimeterAnswer containsAnswer locateAnswer queryTested given _refusing_when_ outlineTested shapeTested countTested valuesTested makeOutcome makeTested madeOf numbers Rattle.geometry.specs.Making.turned kept keptCount closed atFront areaOf containsOf crossesOf locateOf onEdge lengthOf edgeLength ellipseAnswer ellipseTested ellipseFits offsetFits pieceNear ellipseNear ellipseFoot ellipseNearest longNearest quadrantNearest onAxis copysignOf absOf withSign signBit maxOf before hypotOf sqrtOf total any oddly fold run edges vertices add sub mul div neg lt le eq ofInt fillOutcome fillTested boxFits filled longOf fillOf xdyOf clipOf joined onward joint keptLines turned lastKept lead parts partsOf partOf crosses inside Rattle.clip.specs.Clip.at alongOf flatMap ne meetingOf apart indexOf treeOn hullOf hull wideAt boxAt widenedOf scaleOf sort insert isNan
 starred-hold = also (ap finds found-both) (also (ap answers distance-6) (also (ap answers distance-1) (also (ap answers distance-7) refl)))

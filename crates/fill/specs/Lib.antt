@@ -2,5 +2,5 @@
 
 -- The fill: an outline's edges clipped to a cell, and summed.
 pub mod Fill
--- The tests of a call, what it answers, and the buffer that it leaves.
+-- The tests of a call, and what it leaves: the answer and the buffer.
 pub mod Answers

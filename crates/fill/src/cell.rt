@@ -4,15 +4,14 @@ ghost use mathlib.Core.Bool.{Bool, cond};
 ghost use mathlib.Core.List.{List};
 ghost use Prim.Native.Nat.{_+_, _*_, _≤_};
 ghost use lib.ListN.{length, drop};
-ghost use Rattle.number.specs.Exact.{zeroᶠ};
 ghost use Rattle.boundary.specs.declared.Edge.{Edge};
+ghost use Rattle.lists.specs.Lists.{total};
 ghost use Rattle.boundary.specs.Outline.{count, edges};
 ghost use Rattle.accept.specs.declared.Answer.the-variants.{Refused, Measure};
 ghost use Rattle.accept.specs.declared.Refusal.the-variants.{LongList};
 ghost use Rattle.clip.specs.Lent.{linesFrom, Beside, Holds, Stage};
 ghost use Rattle.fill.specs.Fill.{xdyOf, clip4, longOf};
-ghost use Rattle.lists.specs.Lists.{atFront, zeros, total};
-ghost use Rattle.fill.specs.Answers.{halfOf, filled};
+ghost use Rattle.fill.specs.Answers.{halfOf, filledOutcome};
 use accept::Answer;
 use accept::Refusal;
 use boundary::Bounds;
@@ -102,7 +101,7 @@ fn summed(w: &[f64], half: usize, c: Stored) -> Answer
 // The fill, in a buffer that is long enough.
 pub fn fill_in(v: &[f64], c: Bounds, w: &mut [f64]) -> Answer
     requires { ⌜ count (now v) ≤ halfOf (length (now w)) ⌝ }
-    ensures { λ r. ⌜ (r ≡ filled (halfOf (length (now (w .entry)))) (edges (now (v .entry))) c) × (now (w .exit) ≡ atFront (zeros zeroᶠ (8 * halfOf (length (now (w .entry))))) (now (w .entry))) ⌝ }
+    ensures { λ r. ⌜ record { answer = r; lent = now (w .exit) } ≡ filledOutcome (now (v .entry)) c (now (w .entry)) ⌝ }
 {
     let half = w.len() / 8;
     write_edges(v, w);

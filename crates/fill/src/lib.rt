@@ -3,16 +3,14 @@ pub mod cell;
 pub mod tests;
 
 ghost use mathlib.Core.Path.{_≡_};
-ghost use lib.ListN.{length};
-ghost use Rattle.fill.specs.Answers.{fillAnswer, fillBuffer};
+ghost use Rattle.fill.specs.Answers.{fillOutcome};
 use accept::Answer;
 use accept::Test;
 use boundary::Bounds;
 
 // The fill of the cell c, with w as working space.
 pub fn fill(v: &[f64], c: Bounds, w: &mut [f64]) -> Answer
-    ensures { λ r. ⌜ (r ≡ fillAnswer (now (v .entry)) c (length (now (w .entry))))
-        × (now (w .exit) ≡ fillBuffer (now (v .entry)) c (now (w .entry))) ⌝ }
+    ensures { λ r. ⌜ record { answer = r; lent = now (w .exit) } ≡ fillOutcome (now (v .entry)) c (now (w .entry)) ⌝ }
 {
     match tests::fill_tested(v, c, w.len()) {
         Test::Passed => cell::fill_in(v, c, w),

@@ -4,16 +4,17 @@ use mathlib.Core.List.{List, [], _∷_, reverse}
 use Prim.Native.Nat.{ℕ, _-_}
 use lib.Dec.{ltb}
 use lib.ListN.{length, take}
-use lib.Ieee.{Float, lt}
+use lib.Ieee.{Float}
 use Rattle.boundary.specs.declared.Point.{Point}
-use Rattle.boundary.specs.Outline.{count, vertexAt, vertices, edges}
+use Rattle.boundary.specs.Outline.{count, vertexAt, vertices}
 use Rattle.accept.specs.declared.Answer.{Answer}
 use Rattle.accept.specs.declared.Answer.the-variants.{Told}
+use Rattle.accept.specs.declared.CountFields.{CountFields}
+use Rattle.accept.specs.declared.Refusal.the-variants.{ShortBuffer}
 use Rattle.accept.specs.declared.Test.{Test}
-use Rattle.accept.specs.Area.{areaOf}
-use Rattle.accept.specs.Refusals.{samePoint, negativeArea, shapeTested, roomTested}
-use Rattle.accept.specs.Answers.{answerFor}
-use Rattle.accept.specs.Lists.{writtenFor}
+use Rattle.accept.specs.Refusals.{_refusing_when_, given, samePoint, negativeArea, shapeTested}
+use Rattle.accept.specs.Answers.{countFields, Outcome, refusedWith, inFields}
+use Rattle.lists.specs.Lists.{atFront}
 
 -- the last vertex repeats the first
 unfoldable pub closed : List Float → Bool
@@ -28,18 +29,9 @@ unfoldable pub kept : List Float → List Float
 unfolding keptCount
 kept v = take (keptCount v) v
 
--- a lent list of as many places as `room` is shorter than the input (refusal 13)
-abbrev pub tooShort : List Float → ℕ → Bool
-tooShort v room = ltb room (length v)
-
--- the tests, and what making answers: the number of vertices
+-- the tests: 13 is a lent list of fewer places, `room`, than the input has numbers
 unfoldable pub makeTested : List Float → ℕ → Test
-unfolding kept shapeTested roomTested
-makeTested v room = roomTested (tooShort v room) (shapeTested (kept v))
-
-unfoldable pub makeAnswer : List Float → ℕ → Answer
-unfolding answerFor makeTested kept
-makeAnswer v room = answerFor (makeTested v room) (Told (count (kept v)))
+makeTested v room = shapeTested (kept v) refusing ShortBuffer when ltb room (length v)
 
 -- the vertices in order, or where `back` holds from the last to the first
 unfoldable pub turned : Bool → List Point → List Point
@@ -50,7 +42,17 @@ unfoldable pub numbers : List Point → List Float
 numbers [] = []
 numbers (p ∷ ps) = p .x ∷ p .y ∷ numbers ps
 
--- the lent list then: the made outline, or nothing written
-unfoldable pub madeList : List Float → List Float → List Float
-unfolding writtenFor makeTested kept numbers turned vertices areaOf edges lt
-madeList v out = writtenFor (numbers (turned (negativeArea (kept v)) (vertices (kept v)))) out (makeTested v (length out))
+-- the made outline
+unfoldable pub madeOf : List Float → List Float
+madeOf v = numbers (turned (negativeArea (kept v)) (vertices (kept v)))
+
+-- what making leaves: the number of vertices, and the made outline in the lent list
+unfoldable pub makeOutcome : List Float → List Float → Outcome Answer (List Float)
+makeOutcome v out =
+    given (makeTested v (length out))
+    (record { answer = Told (count (kept v)); lent = atFront (madeOf v) out })
+    (refusedWith out)
+
+-- the same as a call leaves it
+abbrev pub makeCall : List Float → List Float → Outcome CountFields (List Float)
+makeCall v out = inFields countFields (makeOutcome v out)

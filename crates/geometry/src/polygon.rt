@@ -7,8 +7,8 @@ ghost use Rattle.lists.specs.Lists.{any, atFront};
 ghost use lib.Ieee.{unlike, lt};
 ghost use Rattle.boundary.specs.Outline.{count, vertexAt, vertices, edges};
 ghost use Rattle.geometry.specs.Polygon.{crossesOf, containsOf, between, turnOf, onEdge, locateOf, boundsOf};
-ghost use Rattle.geometry.specs.Answers.{areaAnswer, perimeterAnswer, boundsAnswer, containsAnswer, locateAnswer, distanceAnswer};
-ghost use Rattle.geometry.specs.Making.{keptCount, turned, numbers, makeAnswer, madeList};
+ghost use Rattle.geometry.specs.Answers.{areaAnswer, perimeterAnswer, boundsAnswer, queryTested, containsAnswer, locateAnswer, distanceAnswer};
+ghost use Rattle.geometry.specs.Making.{keptCount, turned, numbers, makeOutcome};
 use accept::Answer;
 use accept::Refusal;
 use accept::Test;
@@ -142,10 +142,18 @@ pub fn bounds(v: &[f64]) -> Answer
     }
 }
 
+// The tests of a query at a point.
+fn query_tested(v: &[f64], p: Point) -> Test
+    ensures { λ r. ⌜ r ≡ queryTested (now (v .entry)) p ⌝ }
+{
+    let t = refusals::outline_tested(v);
+    refusals::refusing(t, Refusal::BadPoint, !refusals::point_in_field(p))
+}
+
 pub fn contains(v: &[f64], p: Point) -> Answer
     ensures { λ r. ⌜ r ≡ containsAnswer (now (v .entry)) p ⌝ }
 {
-    match refusals::point_tested(p, refusals::outline_tested(v)) {
+    match query_tested(v, p) {
         Test::Passed => Answer::Told(if holds(v, p) { 1 } else { 0 }),
         Test::Failed(r) => Answer::Refused(r),
     }
@@ -154,7 +162,7 @@ pub fn contains(v: &[f64], p: Point) -> Answer
 pub fn locate(v: &[f64], p: Point) -> Answer
     ensures { λ r. ⌜ r ≡ locateAnswer (now (v .entry)) p ⌝ }
 {
-    match refusals::point_tested(p, refusals::outline_tested(v)) {
+    match query_tested(v, p) {
         Test::Passed => Answer::Told(location(v, p)),
         Test::Failed(r) => Answer::Refused(r),
     }
@@ -165,7 +173,7 @@ pub fn locate(v: &[f64], p: Point) -> Answer
 pub fn distance(v: &[f64], p: Point) -> Answer
     ensures { λ r. ⌜ r ≡ distanceAnswer (now (v .entry)) p ⌝ }
 {
-    match refusals::point_tested(p, refusals::outline_tested(v)) {
+    match query_tested(v, p) {
         Test::Passed => {
             let edge = distance::nearest::nearest_edge(v, p);
             let inside = holds(v, p);
@@ -215,8 +223,7 @@ fn write(v: &[f64], back: bool, out: &mut [f64])
 // Makes an outline in out: a closing vertex is dropped, the rest tested, and reversed where its area is
 // negative. The answer is the number of vertices.
 pub fn new(v: &[f64], out: &mut [f64]) -> Answer
-    ensures { λ r. ⌜ (r ≡ makeAnswer (now (v .entry)) (length (now (out .entry))))
-        × (now (out .exit) ≡ madeList (now (v .entry)) (now (out .entry))) ⌝ }
+    ensures { λ r. ⌜ record { answer = r; lent = now (out .exit) } ≡ makeOutcome (now (v .entry)) (now (out .entry)) ⌝ }
 {
     let m = kept_count(v);
     let kept = &v[..m];

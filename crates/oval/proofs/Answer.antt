@@ -1,8 +1,9 @@
 -- What the call answers for an ellipse: it is finite, and comes from a point in the quadrant of the query. Assumes nothing.
 use mathlib.Core.Path.{_≡_, refl, sym, subst}
-use mathlib.Core.Bool.{Bool, true, _&&_}
+use mathlib.Core.Bool.{Bool, false, not, _&&_}
 use Prim.Native.Nat.{ℕ}
 use native.Mathlib.Omega.{arith}
+use borrow.Author.Tests.{not-false}
 use lib.Dec.{T}
 use lib.Ieee.{Float, binary64, add, sub, neg, le, fits}
 use lib.Ieee.Fits.{and-l, and-r, sub-fits}
@@ -15,12 +16,11 @@ use Rattle.pieces.specs.Ellipse.{ellipseNearest, ellipseNear}
 use Rattle.pieces.specs.Piece.{pieceNear}
 use Rattle.accept.specs.declared.Answer.the-variants.{Refused, Away}
 use Rattle.accept.specs.declared.Refusal.{Refusal}
-use Rattle.accept.specs.declared.Refusal.the-variants.{BadEllipse}
+use Rattle.accept.specs.declared.Refusal.the-variants.{BadPoint, BadEllipse}
 use Rattle.accept.specs.declared.Test.{Test}
 use Rattle.accept.specs.declared.Test.the-variants.{Passed, Failed}
-use Rattle.accept.specs.Refusals.{pointTested}
-use Rattle.accept.specs.Answers.{answerFor}
-use Rattle.accept.proofs.TestLaws.{never, passes-else, point-passed}
+use Rattle.accept.specs.Refusals.{_refusing_when_, given}
+use Rattle.accept.proofs.TestLaws.{refusing-passed}
 use Rattle.boundary.specs.Boxes.{inField, pointInField}
 use Rattle.oval.specs.Ellipse.{axisFits, offsetFits, ellipseFits, ellipseTested, ellipseAnswer}
 use Rattle.boundary.specs.Line.{lessPoint}
@@ -73,17 +73,23 @@ module _ {c p : Point} {a b : Float} (Cx : InField (c .x)) (Cy : InField (c .y))
       record { distance = d .held .finite; not-negative = d .low; nearest = record { x = x .held .finite; y = y .held .finite }; moved = refl; quadrant = F .quadrant }
 
 -- ---- the theorem
-ellipse-passed : (c : Point) (a b : Float) (p : Point) (t : Test) → ellipseTested c a b p t ≡ Passed → (ellipseFits c a b p ≡ true) × (t ≡ Passed)
+-- both points are in the field, and the ellipse fits
+ellipse-passed : (c : Point) (a b : Float) (p : Point) → ellipseTested c a b p ≡ Passed → T (pointInField p) × T (pointInField c) × T (ellipseFits c a b p)
 unfolding ellipseTested
-ellipse-passed c a b p Passed e = passes-else (ellipseFits c a b p) BadEllipse Passed e
-ellipse-passed c a b p (Failed r) e = absurd (never e)
-
-holds : {b : Bool} → b ≡ true → T b
-holds e = subst T (sym e) tt
+ellipse-passed c a b p e =
+    let point = Passed refusing BadPoint when not (pointInField p) in
+    let centre = point refusing BadPoint when not (pointInField c) in
+    let t12 = refusing-passed centre BadEllipse _ e in
+    let t10 = refusing-passed point BadPoint _ (t12 .0) in
+    let t = refusing-passed Passed BadPoint _ (t10 .0) in
+    (holds (pointInField p) (t .1), holds (pointInField c) (t10 .1), holds (ellipseFits c a b p) (t12 .1))
+  where
+    holds : (x : Bool) → not x ≡ false → T x
+    holds x e = subst T (sym (not-false x e)) tt
 
 pub oval-answer : {c : Point} {a b : Float} {p : Point} {r : Distance} → FitsPoint c → T (fits binary64 a) → T (fits binary64 b) → FitsPoint p → ellipseAnswer c a b p ≡ Away r → OvalAnswer c a b p r
-unfolding ellipseAnswer answerFor pieceNear
-oval-answer {c} {a} {b} {p} {r} C A B P e = go (ellipseTested c a b p (pointTested c (pointTested p Passed))) refl e
+unfolding ellipseAnswer ellipseFits given pieceNear
+oval-answer {c} {a} {b} {p} {r} C A B P e = go (ellipseTested c a b p) refl e
   where
     away : T (pointInField p) → T (pointInField c) → T (ellipseFits c a b p) → OvalAnswer c a b p (record { d = ellipseNear c a b p .d; v = ellipseNear c a b p .q })
     away ps cs t =
@@ -99,10 +105,6 @@ oval-answer {c} {a} {b} {p} {r} C A B P e = go (ellipseTested c a b p (pointTest
         (offset-of Cx Px (and-l (offsetFits (c .x) (p .x)) (offsetFits (c .y) (p .y)) offs))
         (offset-of Cy Py (and-r (offsetFits (c .x) (p .x)) (offsetFits (c .y) (p .y)) offs)))
 
-    go : (t : Test) → ellipseTested c a b p (pointTested c (pointTested p Passed)) ≡ t → answerFor t (Away (record { d = ellipseNear c a b p .d; v = ellipseNear c a b p .q })) ≡ Away r → OvalAnswer c a b p r
-    go Passed t e =
-        let f = ellipse-passed c a b p _ t in
-        let cs = point-passed c _ (f .1) in
-        let ps = point-passed p Passed (cs .1) in
-        subst (OvalAnswer c a b p) (away-same e) (away (holds (ps .0)) (holds (cs .0)) (holds (f .0)))
+    go : (t : Test) → ellipseTested c a b p ≡ t → given t (Away (record { d = ellipseNear c a b p .d; v = ellipseNear c a b p .q })) Refused ≡ Away r → OvalAnswer c a b p r
+    go Passed t e = let f = ellipse-passed c a b p t in subst (OvalAnswer c a b p) (away-same e) (away (f .0) (f .1) (f .2))
     go (Failed n) t e = refused-not-away e

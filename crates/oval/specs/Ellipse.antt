@@ -1,19 +1,19 @@
 -- The nearest point of an ellipse: tests 10 and 12 (document 01), and what the call answers. Definitions only.
-use mathlib.Core.Bool.{Bool, false, _&&_, _||_, cond}
+use mathlib.Core.Bool.{Bool, false, not, _&&_, _||_}
 use lib.IntN.{pos, negsuc}
 use lib.Ieee.{Float, fin, binary64, sub, le, eq}
 use Rattle.number.specs.Exact.{zeroᶠ}
 use Rattle.signs.specs.Signs.{absOf}
 use Rattle.boundary.specs.declared.Point.{Point}
+use Rattle.boundary.specs.Boxes.{pointInField}
 use Rattle.pieces.specs.declared.Piece.the-variants.{Ellipse}
 use Rattle.pieces.specs.Piece.{pieceNear}
 use Rattle.accept.specs.declared.Answer.{Answer}
-use Rattle.accept.specs.declared.Answer.the-variants.{Away}
-use Rattle.accept.specs.declared.Refusal.the-variants.{BadEllipse}
+use Rattle.accept.specs.declared.Answer.the-variants.{Refused, Away}
+use Rattle.accept.specs.declared.Refusal.the-variants.{BadPoint, BadEllipse}
 use Rattle.accept.specs.declared.Test.{Test}
-use Rattle.accept.specs.declared.Test.the-variants.{Passed, Failed}
-use Rattle.accept.specs.Refusals.{pointTested}
-use Rattle.accept.specs.Answers.{answerFor}
+use Rattle.accept.specs.declared.Test.the-variants.{Passed}
+use Rattle.accept.specs.Refusals.{_refusing_when_, given}
 
 -- ---- test 12
 -- a semi-axis is 2 ^ -10 to 1,024
@@ -38,16 +38,16 @@ unfoldable pub ellipseFits : Point → Float → Float → Point → Bool
 unfolding le offsetFits
 ellipseFits c a b p = (axisFits a && axisFits b) && (offsetFits (c .x) (p .x) && offsetFits (c .y) (p .y))
 
--- after t of test 10
-unfoldable pub ellipseTested : Point → Float → Float → Point → Test → Test
-unfolding ellipseFits
-ellipseTested c a b p Passed = cond (ellipseFits c a b p) Passed (Failed BadEllipse)
-ellipseTested c a b p (Failed r) = Failed r
+-- ---- the ellipse with centre c and semi-axes a along x and b along y, and the point p
+-- test 10 of the point and of the centre, then test 12
+unfoldable pub ellipseTested : Point → Float → Float → Point → Test
+ellipseTested c a b p =
+    Passed refusing BadPoint when not (pointInField p)
+    refusing BadPoint when not (pointInField c)
+    refusing BadEllipse when not (ellipseFits c a b p)
 
--- ---- the ellipse with centre c and semi-axes a along x and b along y, and the point p: test 10 of the point and of the centre, then test 12
 -- its distance, and its nearest point
 unfoldable pub ellipseAnswer : Point → Float → Float → Point → Answer
-unfolding answerFor ellipseTested pointTested
 ellipseAnswer c a b p =
     let k = pieceNear (Ellipse c a b) p in
-    answerFor (ellipseTested c a b p (pointTested c (pointTested p Passed))) (Away (record { d = k .d; v = k .q }))
+    given (ellipseTested c a b p) (Away (record { d = k .d; v = k .q })) Refused

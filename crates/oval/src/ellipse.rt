@@ -4,7 +4,8 @@ ghost use Rattle.oval.specs.Ellipse.{axisFits, offsetFits, ellipseFits, 
 use accept::Answer;
 use accept::Refusal;
 use accept::Test;
-use accept::refusals::point_tested;
+use accept::refusals::point_in_field;
+use accept::refusals::refusing;
 use boundary::Distance;
 use boundary::Point;
 use pieces::Piece;
@@ -35,28 +36,20 @@ fn ellipse_fits(c: Point, a: f64, b: f64, p: Point) -> bool
     (axis_fits(a) & axis_fits(b)) & (offset_fits(c.x, p.x) & offset_fits(c.y, p.y))
 }
 
-// Test 12, after test 10.
-fn ellipse_tested(c: Point, a: f64, b: f64, p: Point, t: Test) -> Test
-    ensures { λ r. ⌜ r ≡ ellipseTested c a b p t ⌝ }
+// Test 10 of the point and of the centre, then test 12.
+fn ellipse_tested(c: Point, a: f64, b: f64, p: Point) -> Test
+    ensures { λ r. ⌜ r ≡ ellipseTested c a b p ⌝ }
 {
-    match t {
-        Test::Passed => {
-            if ellipse_fits(c, a, b, p) {
-                Test::Passed
-            } else {
-                Test::Failed(Refusal::BadEllipse)
-            }
-        }
-        Test::Failed(r) => Test::Failed(r),
-    }
+    let point = refusing(Test::Passed, Refusal::BadPoint, !point_in_field(p));
+    let centre = refusing(point, Refusal::BadPoint, !point_in_field(c));
+    refusing(centre, Refusal::BadEllipse, !ellipse_fits(c, a, b, p))
 }
 
 // The point nearest to p of the ellipse with centre c and semi-axes a along x and b along y.
 pub fn ellipse_nearest(c: Point, a: f64, b: f64, p: Point) -> Answer
     ensures { λ r. ⌜ r ≡ ellipseAnswer c a b p ⌝ }
 {
-    let t = point_tested(c, point_tested(p, Test::Passed));
-    match ellipse_tested(c, a, b, p, t) {
+    match ellipse_tested(c, a, b, p) {
         Test::Passed => {
             let k = Piece::Ellipse { c, a, b }.nearest(p);
             let v = k.q;

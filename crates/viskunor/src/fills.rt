@@ -2,10 +2,8 @@
 // puts zero there. The lent buffer is working space of two halves, which hold zeros afterwards; a refused
 // call leaves it as it was, but for refusal 14.
 ghost use mathlib.Core.Path.{_≡_};
-ghost use lib.ListN.{length};
 ghost use Rattle.boundary.specs.Boxes.{cellOf};
-ghost use Rattle.accept.specs.Answers.{numberOf, measureOf};
-ghost use Rattle.fill.specs.Answers.{fillAnswer, fillBuffer};
+ghost use Rattle.fill.specs.Answers.{fillCall};
 use accept::answers;
 use boundary::Bounds;
 use boundary::Point;
@@ -20,15 +18,14 @@ pub extern "C" fn vk_outline_fill(
     work: &mut [f64],
     fill: &mut f64,
 ) -> u32
-    ensures { λ r. ⌜ (r ≡ numberOf (fillAnswer (now (vertices .entry)) (cellOf «min_x» «min_y» «max_x» «max_y») (length (now (work .entry)))))
-        × (now (fill .exit) ≡ measureOf (fillAnswer (now (vertices .entry)) (cellOf «min_x» «min_y» «max_x» «max_y») (length (now (work .entry)))))
-        × (now (work .exit) ≡ fillBuffer (now (vertices .entry)) (cellOf «min_x» «min_y» «max_x» «max_y») (now (work .entry))) ⌝ }
+    ensures { λ r. ⌜ record { answer = record { number = r; measure = now (fill .exit) }; lent = now (work .exit) }
+        ≡ fillCall (now (vertices .entry)) (cellOf «min_x» «min_y» «max_x» «max_y») (now (work .entry)) ⌝ }
 {
     let cell = Bounds {
         min: Point { x: min_x, y: min_y },
         max: Point { x: max_x, y: max_y },
     };
-    let fill_answer = fill::fill(vertices, cell, work);
-    *fill = answers::measure_of(fill_answer);
-    answers::number_of(fill_answer)
+    let fields = answers::measure_fields(fill::fill(vertices, cell, work));
+    *fill = fields.measure;
+    fields.number
 }

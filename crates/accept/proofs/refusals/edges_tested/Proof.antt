@@ -16,7 +16,7 @@ use Rattle.boundary.specs.Outline.{count, vertexAt, edgeAt, edges}
 use Rattle.lists.proofs.FoldLaws.{fold-run-next, fold-run-end, fold-found}
 use Rattle.accept.specs.Area.{crossOf, areaOf}
 use Rattle.accept.specs.Refusals.{samePoint}
-use Rattle.accept.specs.Verdicts.{verdictOf}
+use Rattle.accept.specs.Verdicts.{edgesVerdict}
 use Rattle.accept.proofs.refusals.edges_tested.Statement.{statement}
 use Rattle.accept.proofs.refusals.edges_tested.Tie as tie
 
@@ -77,7 +77,7 @@ same-point-requires : tie.Need-same-point-requires Inv-loop μ-loop
 same-point-requires c κs = search needs
 
 returns-2 : tie.Need-returns-2 Inv-loop μ-loop
-unfolding verdictOf
+unfolding edgesVerdict
 returns-2 c =
     let d = c .before .before in
     let q = d .before .before in

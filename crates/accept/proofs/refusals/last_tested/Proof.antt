@@ -2,7 +2,7 @@
 use mathlib.Core.Path.{sym, _∙_}
 use borrow.Author.Needs.{needs}
 use lib.Ieee.{ofBits}
-use Rattle.accept.specs.Verdicts.{verdictOf}
+use Rattle.accept.specs.Verdicts.{edgesVerdict}
 use Rattle.accept.proofs.refusals.last_tested.Statement.{statement}
 use Rattle.accept.proofs.refusals.last_tested.Tie as tie
 
@@ -10,7 +10,7 @@ same-point-requires : tie.Need-same-point-requires
 same-point-requires c κs = search needs
 
 returns : tie.Need-returns
-unfolding verdictOf
+unfolding edgesVerdict
 returns c = rw (sym (c .before .same-point .ensures) ∙ c .if1 .taken)
 
 cross-requires : tie.Need-cross-requires

@@ -1,6 +1,7 @@
 -- `accept::refusals::outline_verdict` meets its contract. Assumes nothing.
 use borrow.Author.Needs.{needs}
-use Rattle.accept.specs.Refusals.{outlineTested}
+use denote.Ref.{now}
+use Rattle.accept.specs.Refusals.{shapeTested, signTested, outlineTested}
 use Rattle.accept.proofs.refusals.outline_verdict.Statement.{statement}
 use Rattle.accept.proofs.refusals.outline_verdict.Tie as tie
 
@@ -11,8 +12,10 @@ sign-tested-requires : tie.Need-sign-tested-requires
 sign-tested-requires c κs = search needs
 
 returns : tie.Need-returns
-unfolding outlineTested
-returns c = c .sign-tested .ensures _ _ (c .before .shape-tested .ensures)
+unfolding outlineTested signTested
+returns c =
+    let v = now (c .before .before .before .args .v) in
+    c .sign-tested .ensures v (shapeTested v) (c .before .shape-tested .ensures)
 
 pub outline-verdict-spec : {M : Type 1} → statement M
 outline-verdict-spec = tie.close (tie.spec shape-tested-requires sign-tested-requires returns)

@@ -7,8 +7,8 @@ use lib.Ieee.{Float, nan, inf, fin, le, neg}
 use lib.Ieee.Scale.{finite}
 use Rattle.boundary.specs.Boxes.{inField}
 use Rattle.lists.proofs.FoldLaws.{any-none}
-use Rattle.accept.specs.Refusals.{valuesTested}
-use Rattle.accept.specs.Verdicts.{verdictOf}
+use Rattle.accept.specs.Refusals.{given, valuesTested}
+use Rattle.accept.specs.Verdicts.{edgesVerdict}
 use Rattle.accept.proofs.refusals.values_tested.Statement.{statement}
 use Rattle.accept.proofs.refusals.values_tested.Tie as tie
 
@@ -26,11 +26,11 @@ any-unfit-requires-2 : tie.Need-any-unfit-requires-2
 any-unfit-requires-2 c κs = search needs
 
 returns : tie.Need-returns
-unfolding valuesTested verdictOf
+unfolding valuesTested given
 returns c = rw (← c .before .any-unfit2 .ensures, c .if2 .taken)
 
 returns-2 : tie.Need-returns-2
-unfolding valuesTested verdictOf
+unfolding valuesTested given
 returns-2 c =
     let d = c .before .before in
     rw (← c .before .any-unfit2 .ensures, c .if2 .left, ← d .before .any-unfit .ensures, d .if1 .taken)
@@ -39,7 +39,7 @@ edges-tested-requires : tie.Need-edges-tested-requires
 edges-tested-requires c κs = search needs
 
 returns-3 : tie.Need-returns-3
-unfolding valuesTested verdictOf
+unfolding valuesTested edgesVerdict given
 returns-3 c =
     let d = c .before .before in
     let e = sym (d .any-unfit .ensures) ∙ c .before .if1 .left in

@@ -37,10 +37,12 @@ unfolding filled fillOf
 returns c =
     let c8 = c .before .before .before .before .before .before .before .before in
     let c12 = c8 .before .before .before .before in
-    let c16 = c12 .before .before .before .before in (
-      c .before .before .before .before .summed .ensures _ _ (c8 .four .ensures .2 _ (widened (c12 .write-edges .ensures .1) (le-refl _))),
-      rw (c .before .before .clear-numbers .ensures) (zeros-past zeroᶠ (8 * halfOf (length (c16 .args .w .now))) _ (c16 .args .w .now) (c8 .four .ensures .1 ∙ rest-kept (c12 .write-edges .ensures .0) (8 * halfOf (length (c16 .args .w .now))) (omega (arith, c16 .pre)))),
-    )
+    let c16 = c12 .before .before .before .before in
+    let w = c16 .args .w .now in
+    let n = 8 * halfOf (length w) in
+    let kept = c8 .four .ensures .1 ∙ rest-kept (c12 .write-edges .ensures .0) n (omega (arith, c16 .pre)) in
+    let answer = c .before .before .before .before .summed .ensures _ _ (c8 .four .ensures .2 _ (widened (c12 .write-edges .ensures .1) (le-refl _))) in
+    rw (answer, c .before .before .clear-numbers .ensures, zeros-past zeroᶠ n _ w kept)
 
 pub fill-in-spec : {M : Type 1} → statement M
 fill-in-spec =

@@ -1,6 +1,6 @@
 -- `geometry::polygon::bounds` meets its contract. Assumes nothing.
 use borrow.Author.Needs.{needs}
-use Rattle.accept.specs.Answers.{answerFor}
+use Rattle.accept.specs.Refusals.{given}
 use Rattle.geometry.specs.Answers.{boundsAnswer}
 use Rattle.geometry.proofs.polygon.bounds.Statement.{statement}
 use Rattle.geometry.proofs.polygon.bounds.Tie as tie
@@ -18,11 +18,11 @@ enum-known-r : tie.Need-enum-known-r
 enum-known-r c = search needs
 
 returns : tie.Need-returns
-unfolding boundsAnswer answerFor
+unfolding boundsAnswer given
 returns c = rw (← c .before .before .before .outline-tested .ensures, c .before .enum-told .given .1, c .box-of .ensures)
 
 returns-2 : tie.Need-returns-2
-unfolding boundsAnswer answerFor
+unfolding boundsAnswer given
 returns-2 c = rw (← c .before .before .before .outline-tested .ensures, c .before .r .given .1)
 
 pub bounds-spec : {M : Type 1} → statement M

@@ -1,15 +1,12 @@
 -- `geometry::polygon::locate` meets its contract. Assumes nothing.
 use borrow.Author.Needs.{needs}
-use Rattle.accept.specs.Answers.{answerFor}
+use Rattle.accept.specs.Refusals.{given}
 use Rattle.geometry.specs.Answers.{locateAnswer}
 use Rattle.geometry.proofs.polygon.locate.Statement.{statement}
 use Rattle.geometry.proofs.polygon.locate.Tie as tie
 
-outline-tested-requires : tie.Need-outline-tested-requires
-outline-tested-requires c κs = search needs
-
-point-tested-requires : tie.Need-point-tested-requires
-point-tested-requires c κs = search needs
+query-tested-requires : tie.Need-query-tested-requires
+query-tested-requires c κs = search needs
 
 enum-told : tie.Need-enum-told
 enum-told c = search needs
@@ -21,16 +18,16 @@ enum-known-r : tie.Need-enum-known-r
 enum-known-r c = search needs
 
 returns : tie.Need-returns
-unfolding locateAnswer answerFor
+unfolding locateAnswer given
 returns c =
     let d = c .before .before .before in
-    rw (← d .before .outline-tested .ensures, ← d .point-tested .ensures, c .before .enum-told .given .1, c .location .ensures)
+    rw (← d .query-tested .ensures, c .before .enum-told .given .1, c .location .ensures)
 
 returns-2 : tie.Need-returns-2
-unfolding locateAnswer answerFor
+unfolding locateAnswer given
 returns-2 c =
     let d = c .before .before .before in
-    rw (← d .before .outline-tested .ensures, ← d .point-tested .ensures, c .before .r .given .1)
+    rw (← d .query-tested .ensures, c .before .r .given .1)
 
 pub locate-spec : {M : Type 1} → statement M
-locate-spec = tie.close (tie.spec outline-tested-requires point-tested-requires enum-told location-requires enum-known-r returns returns-2)
+locate-spec = tie.close (tie.spec query-tested-requires enum-told location-requires enum-known-r returns returns-2)

@@ -1,15 +1,13 @@
 -- `geometry::polygon::new` meets its contract. Assumes nothing.
-use mathlib.Core.Path.{sym, _∙_}
+use mathlib.Core.Path.{refl, sym, _∙_}
 use native.Mathlib.Nat.{le-trans}
 use native.Mathlib.Omega.{arith}
 use borrow.Author.Needs.{needs}
 use borrow.Author.Tests.{lt-ltb, le-ltb}
 use lib.Ieee.{ofBits}
 use lib.Seq.{length-take-le}
-use Rattle.accept.specs.Answers.{answerFor}
-use Rattle.accept.specs.Lists.{writtenFor}
-use Rattle.accept.specs.Refusals.{roomTested}
-use Rattle.geometry.specs.Making.{kept, makeTested, makeAnswer, madeList}
+use Rattle.accept.specs.Refusals.{_refusing_when_, given}
+use Rattle.geometry.specs.Making.{kept, makeTested, madeOf, makeOutcome}
 use Rattle.accept.proofs.TestLaws.{passed-size}
 use Rattle.accept.proofs.VerdictLaws.{area-passed, turned-failed}
 use Rattle.geometry.proofs.polygon.new.Statement.{statement}
@@ -28,13 +26,13 @@ enum-known-a : tie.Need-enum-known-a
 enum-known-a c = search needs
 
 returns : tie.Need-returns
-unfolding makeAnswer madeList makeTested roomTested writtenFor answerFor kept
+unfolding makeOutcome makeTested _refusing_when_ kept
 returns c =
     let d = c .before .before .before .before in
     let k = d .before .before .kept-count .ensures .0 in
     let e = area-passed _ _ _ (sym (d .shape-tested .ensures) ∙ c .before .before .a .given .1) .0 in
     let s = lt-ltb _ _ (c .if1 .taken) in
-    (rw (← k, e, s), rw (← k, e, s))
+    rw (← k, e, s) (unfold given in refl)
 
 write-requires : tie.Need-write-requires
 write-requires c κs =
@@ -55,22 +53,22 @@ same-length : tie.Need-same-length
 same-length c = search needs
 
 returns-2 : tie.Need-returns-2
-unfolding makeAnswer madeList makeTested roomTested writtenFor answerFor kept ofBits
+unfolding makeOutcome makeTested madeOf _refusing_when_ kept ofBits
 returns-2 c =
     let b = c .before .before .before .before in
     let d = b .before .before .before .before in
     let k = d .before .before .kept-count .ensures in
     let e = area-passed _ _ _ (sym (d .shape-tested .ensures) ∙ b .before .before .a .given .1) in
     let s = le-ltb _ _ (b .if1 .left) in
-    (rw (← k .0, e .0, s, length-take-le _ _ (k .1)), rw (← k .0, e .0, s, e .1, c .before .before .write .ensures))
+    rw (← k .0, e .0, s, length-take-le _ _ (k .1), e .1, c .before .before .write .ensures) (unfold given in refl)
 
 returns-3 : tie.Need-returns-3
-unfolding makeAnswer madeList makeTested roomTested writtenFor answerFor kept
+unfolding makeOutcome makeTested _refusing_when_ kept
 returns-3 c =
     let d = c .before .before .before in
     let k = d .before .before .kept-count .ensures .0 in
     let e = turned-failed _ _ _ (sym (d .shape-tested .ensures) ∙ c .before .r .given .1) in
-    (rw (← k, e), rw (← k, e))
+    rw (← k, e) (unfold given in refl)
 
 pub new-spec : {M : Type 1} → statement M
 new-spec =

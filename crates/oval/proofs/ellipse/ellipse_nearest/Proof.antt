@@ -1,15 +1,9 @@
 -- `oval::ellipse::ellipse_nearest` meets its contract. Assumes nothing.
 use borrow.Author.Needs.{needs}
-use Rattle.accept.specs.Answers.{answerFor}
+use Rattle.accept.specs.Refusals.{given}
 use Rattle.oval.specs.Ellipse.{ellipseAnswer}
 use Rattle.oval.proofs.ellipse.ellipse_nearest.Statement.{statement}
 use Rattle.oval.proofs.ellipse.ellipse_nearest.Tie as tie
-
-point-tested-requires : tie.Need-point-tested-requires
-point-tested-requires c κs = search needs
-
-point-tested-requires-2 : tie.Need-point-tested-requires-2
-point-tested-requires-2 c κs = search needs
 
 ellipse-tested-requires : tie.Need-ellipse-tested-requires
 ellipse-tested-requires c κs = search needs
@@ -24,16 +18,16 @@ enum-known-r : tie.Need-enum-known-r
 enum-known-r c = search needs
 
 returns : tie.Need-returns
-unfolding ellipseAnswer answerFor
+unfolding ellipseAnswer given
 returns c =
     let d = c .before .before .before .before in
-    rw (← d .before .before .point-tested .ensures, ← d .before .point-tested2 .ensures, ← d .ellipse-tested .ensures, c .before .before .enum-told .given .1, c .before .nearest .ensures)
+    rw (← d .ellipse-tested .ensures, c .before .before .enum-told .given .1, c .before .nearest .ensures)
 
 returns-2 : tie.Need-returns-2
-unfolding ellipseAnswer answerFor
+unfolding ellipseAnswer given
 returns-2 c =
     let d = c .before .before .before in
-    rw (← d .before .before .point-tested .ensures, ← d .before .point-tested2 .ensures, ← d .ellipse-tested .ensures, c .before .r .given .1)
+    rw (← d .ellipse-tested .ensures, c .before .r .given .1)
 
 pub ellipse-nearest-spec : {M : Type 1} → statement M
-ellipse-nearest-spec = tie.close (tie.spec point-tested-requires point-tested-requires-2 ellipse-tested-requires enum-told nearest-requires enum-known-r returns returns-2)
+ellipse-nearest-spec = tie.close (tie.spec ellipse-tested-requires enum-told nearest-requires enum-known-r returns returns-2)

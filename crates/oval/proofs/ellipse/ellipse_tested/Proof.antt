@@ -1,29 +1,42 @@
 -- `oval::ellipse::ellipse_tested` meets its contract. Assumes nothing.
-use borrow.Author.Needs.{needs}
 use Rattle.oval.specs.Ellipse.{ellipseTested}
+use borrow.Author.Needs.{needs}
 use Rattle.oval.proofs.ellipse.ellipse_tested.Statement.{statement}
 use Rattle.oval.proofs.ellipse.ellipse_tested.Tie as tie
 
-enum-told : tie.Need-enum-told
-enum-told c = search needs
+point-in-field-requires : tie.Need-point-in-field-requires
+point-in-field-requires c κs = search needs
+
+refusing-requires : tie.Need-refusing-requires
+refusing-requires c κs = search needs
+
+point-in-field-requires-2 : tie.Need-point-in-field-requires-2
+point-in-field-requires-2 c κs = search needs
+
+refusing-requires-2 : tie.Need-refusing-requires-2
+refusing-requires-2 c κs = search needs
 
 ellipse-fits-requires : tie.Need-ellipse-fits-requires
 ellipse-fits-requires c κs = search needs
 
-enum-known-t : tie.Need-enum-known-t
-enum-known-t c = search needs
+refusing-requires-3 : tie.Need-refusing-requires-3
+refusing-requires-3 c κs = search needs
 
 returns : tie.Need-returns
 unfolding ellipseTested
-returns c = rw (c .before .before .enum-told .given .1, ← c .before .ellipse-fits .ensures, c .if1 .taken)
-
-returns-2 : tie.Need-returns-2
-unfolding ellipseTested
-returns-2 c = rw (c .before .before .enum-told .given .1, ← c .before .ellipse-fits .ensures, c .if1 .left)
-
-returns-3 : tie.Need-returns-3
-unfolding ellipseTested
-returns-3 c = rw (c .before .t .given .1)
+returns c =
+    let d = c .before .before in
+    let e = d .before .before in
+    rw (c .refusing3 .ensures, c .before .ellipse-fits .ensures, d .refusing2 .ensures, d .before .point-in-field2 .ensures, e .refusing .ensures, e .before .point-in-field .ensures)
 
 pub ellipse-tested-spec : {M : Type 1} → statement M
-ellipse-tested-spec = tie.close (tie.spec enum-told ellipse-fits-requires enum-known-t returns returns-2 returns-3)
+ellipse-tested-spec =
+    tie.close
+    (tie.spec
+    point-in-field-requires
+    refusing-requires
+    point-in-field-requires-2
+    refusing-requires-2
+    ellipse-fits-requires
+    refusing-requires-3
+    returns)
