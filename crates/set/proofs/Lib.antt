@@ -1,6 +1,6 @@
 -- Laws of sets.
 
--- Whether some member passes a test: over two lists, and where no member does.
+-- Whether some member passes a test: with what was found before, and where no member does.
 pub mod AnyLaws
 -- Tests 5 to 9 in one pass.
 pub mod OnePassLaws
