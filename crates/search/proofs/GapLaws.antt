@@ -26,7 +26,7 @@ use Rattle.nodes.proofs.TreeLaws.{left, right, length-left, length-right, times
 use Rattle.index.specs.Buffer.{IndexBuffer, Stands}
 use Rattle.index.proofs.HullLaws.{hull-of-finite}
 use Rattle.index.proofs.Theorems.{items-times, items-once, node-boxes, nodes-511}
-use Rattle.set.specs.Set.{Outline, outlineIn, boxIn, setBoxes, Fitting, DoubleSet}
+use Rattle.set.specs.Set.{Outline, outlineIn, setBox, setBoxes, Fitting, DoubleSet}
 use Rattle.set.proofs.SetLaws.{outline-past, outline-numbers, boxes-length, box-at-set, boxes-tested, box-field}
 use Rattle.search.specs.Least.{magnitudeAt}
 use Rattle.search.specs.Walk.{DoubleBox, Covered, Searched}
@@ -126,7 +126,7 @@ module _ (os : List Outline) (fit : Fitting os) (held : DoubleSet os) where
       let o = items-once boxes i .0 (omega arith) in
       omega arith
 
-  wide-is : (i : ℕ) → i < length os → wideAt boxes i ≡ widenedOf (boxIn os i)
+  wide-is : (i : ℕ) → i < length os → wideAt boxes i ≡ widenedOf (setBox os i)
   unfolding wideAt
   wide-is i l = ap widenedOf (box-at-set os i l)
 

@@ -17,7 +17,7 @@ use Rattle.entries.specs.Entries.{boxAt}
 use Rattle.splits.specs.Tree.{Tree, itemsOf, EachNode}
 use Rattle.nodes.specs.Layout.{extra}
 use Rattle.index.specs.Buffer.{IndexBuffer, Stands}
-use Rattle.set.specs.Set.{Outline, startOf, outlinesOf, boxIn, Fitting, DoubleSet}
+use Rattle.set.specs.Set.{Outline, startOf, outlinesOf, setBox, Fitting, DoubleSet}
 use Rattle.set.specs.Answers.{Starts}
 use Rattle.search.specs.declared.Best.{Best}
 
@@ -49,7 +49,7 @@ DoubleBox b = BoxOf (λ x. T (fits binary64 x)) b
 -- the item i below a node with the box b is an outline's number, and the box is around that outline's widened box
 pub record Covered (os : List Outline) (b : Bounds) (i : ℕ) : Type 0 where
   pub within : i < length os
-  pub around : Around b (widenedOf (boxIn os i))
+  pub around : Around b (widenedOf (setBox os i))
 
 -- an index of the set stands in the buffer: any tree of at most 511 nodes, wherever they are, whose leaves have every outline's number, and whose boxes cover the outlines below them
 pub record Searched (os : List Outline) (B : IndexBuffer) : Type 0 where

@@ -26,7 +26,7 @@ use Rattle.index.specs.Answers.{boxesTested}
 use Rattle.entries.proofs.StoreLaws.{length-run, run-at, flat-length}
 use Rattle.entries.proofs.EntryLaws.{box-held}
 use Rattle.index.proofs.GrowLaws.{or-none}
-use Rattle.set.specs.Set.{Outline, startOf, outlineAt, outlinesOf, outlineIn, outlineBox, boxIn, setBoxes, Fit, Fitting, Doubles, DoubleSet}
+use Rattle.set.specs.Set.{Outline, startOf, outlineAt, outlinesOf, outlineIn, outlineBox, setBox, setBoxes, Fit, Fitting, Doubles, DoubleSet}
 use Rattle.set.specs.Tests.{addsUp, anyMany, overSize, listsTested, outlinesTested, setTested}
 use Rattle.set.proofs.AnyLaws.{none-of}
 use Rattle.set.proofs.BoundsLaws.{InField, bounds-spanned, spanned-box, spanned-fits}
@@ -202,16 +202,16 @@ run-members d xs =
     (λ i h. let l : i < length xs = rw n at h in let z : 0 + i ≡ i = omega arith in run-at (λ k. getD xs k d) 0 (length xs) i d l ∙ ap (λ (k : ℕ). getD xs k d) z)
 
 module _ (os : List Outline) where
-  boxes-flat : setBoxes os ≡ flatMap boxNumbers (run (boxIn os) 0 (length os))
+  boxes-flat : setBoxes os ≡ flatMap boxNumbers (run (setBox os) 0 (length os))
   unfolding setBoxes
-  boxes-flat = ap (flatMap (λ o. boxNumbers (outlineBox o))) (sym (run-members [] os)) ∙ flat-of boxNumbers (boxIn os) 0 (length os) (outlineIn os) outlineBox (λ j. refl)
+  boxes-flat = ap (flatMap (λ o. boxNumbers (outlineBox o))) (sym (run-members [] os)) ∙ flat-of boxNumbers (setBox os) 0 (length os) (outlineIn os) outlineBox (λ j. refl)
 
   pub boxes-length : length (setBoxes os) ≡ 4 * length os
   unfolding setBoxes
   boxes-length = flat-length (λ o. boxNumbers (outlineBox o)) 4 (λ _. refl) os
 
-  pub box-at-set : (k : ℕ) → k < length os → boxAt (setBoxes os) k ≡ boxIn os k
-  box-at-set k l = ap (λ (s : List Float). boxAt s k) boxes-flat ∙ box-held (boxIn os) (length os) k l
+  pub box-at-set : (k : ℕ) → k < length os → boxAt (setBoxes os) k ≡ setBox os k
+  box-at-set k l = ap (λ (s : List Float). boxAt s k) boxes-flat ∙ box-held (setBox os) (length os) k l
 
   module _ (fit : Fitting os) where
     pub outline-in-field : (k : ℕ) → k < length os → outsideField (outlineIn os k) ≡ false
@@ -220,8 +220,8 @@ module _ (os : List Outline) where
     number-in-field : (k : ℕ) → k < length os → (i : ℕ) → i < length (outlineIn os k) → InField (getD (outlineIn os k) i nan)
     number-in-field k l i m = subst T (sym (not-false (inField (getD (outlineIn os k) i nan)) (any-at (λ x. not (inField x)) nan (outlineIn os k) i m (outline-in-field k l)))) tt
 
-    box-fits : (k : ℕ) → k < length os → boxFits (boxIn os k) ≡ true
-    box-fits k l = spanned-fits InField (λ x f. f) (boxIn os k) (bounds-spanned InField (λ x f. f) (outlineIn os k) (fit .some k l) (number-in-field k l))
+    box-fits : (k : ℕ) → k < length os → boxFits (setBox os k) ≡ true
+    box-fits k l = spanned-fits InField (λ x f. f) (setBox os k) (bounds-spanned InField (λ x f. f) (outlineIn os k) (fit .some k l) (number-in-field k l))
 
     no-unfit : any (λ b. not (boxFits b)) (boxesOf (setBoxes os)) ≡ false
     unfolding boxesOf
@@ -248,5 +248,5 @@ module _ (os : List Outline) where
       pub outline-numbers : (i : ℕ) → i < length (outlineIn os k) → FieldValue (getD (outlineIn os k) i nan)
       outline-numbers i m = record { fits = held k l .each i m; in-field = number-in-field k l i m }
 
-      pub box-field : FieldBox (boxIn os k)
-      box-field = spanned-box FieldValue (λ x f. f .in-field) (boxIn os k) (bounds-spanned FieldValue (λ x f. f .in-field) (outlineIn os k) (fit .some k l) outline-numbers)
+      pub box-field : FieldBox (setBox os k)
+      box-field = spanned-box FieldValue (λ x f. f .in-field) (setBox os k) (bounds-spanned FieldValue (λ x f. f .in-field) (outlineIn os k) (fit .some k l) outline-numbers)

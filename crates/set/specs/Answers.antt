@@ -21,6 +21,10 @@ worked a B = record { answer = a; lent = cleared B }
 unfoldable pub queryOutcome : {A : Type 0} → List Float → List ℕ → Point → IndexBuffer → A → (Refusal → A) → Outcome A IndexBuffer
 queryOutcome v cs p B a refused = given (setQueryTested v cs p B) (worked a B) (λ r. record { answer = refused r; lent = B })
 
+-- what f gives of the answer
+abbrev pub inFields : {A F : Type 0} → (A → F) → Outcome A IndexBuffer → Outcome F IndexBuffer
+inFields f o = record { answer = f (o .answer); lent = o .lent }
+
 -- ---- what the work asks
 -- a set that passes the tests, and an index buffer
 pub record Ready (v : List Float) (cs : List ℕ) (B : IndexBuffer) : Type 0 where

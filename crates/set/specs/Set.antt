@@ -42,8 +42,8 @@ outlineIn os k = getD os k []
 abbrev pub outlineBox : Outline → Bounds
 outlineBox o = boundsOf (vertices o)
 
-abbrev pub boxIn : List Outline → ℕ → Bounds
-boxIn os k = outlineBox (outlineIn os k)
+abbrev pub setBox : List Outline → ℕ → Bounds
+setBox os k = outlineBox (outlineIn os k)
 
 -- the outlines' boxes, as a list of boxes
 unfoldable pub setBoxes : List Outline → List Float
