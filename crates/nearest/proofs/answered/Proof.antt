@@ -3,6 +3,7 @@ use mathlib.Core.Path.{ap}
 use borrow.Author.Tests.{eq-eqb, ne-eqb}
 use Rattle.nearest.specs.declared.Nearest.the-variants.{At}
 use Rattle.nearest.specs.Nearest.{nearestIn}
+use Rattle.index.proofs.GrowLaws.{cleared-record}
 use borrow.Author.Needs.{needs}
 use Rattle.nearest.proofs.answered.Statement.{statement}
 use Rattle.nearest.proofs.answered.Tie as tie
@@ -21,7 +22,7 @@ same-length-3 c = search needs
 
 returns : tie.Need-returns
 unfolding nearestIn
-returns c = (rw (eq-eqb _ 0 (c .before .before .before .before .before .before .before .before .before .before .if1 .taken)), c .before .before .before .before .before .before .clear .ensures)
+returns c = (rw (eq-eqb _ 0 (c .before .before .before .before .before .before .before .before .before .before .if1 .taken)), cleared-record (c .before .before .before .before .before .before .clear .ensures))
 
 found-requires : tie.Need-found-requires
 found-requires c κs = search needs
