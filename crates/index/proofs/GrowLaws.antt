@@ -16,6 +16,7 @@ use Rattle.sorts.proofs.PartLaws.{sort-sorted}
 use Rattle.boundary.specs.Folds.{run, any}
 use Rattle.accept.specs.declared.Refusal.the-variants.{TooMany, BadBox, ShortBuffer}
 use Rattle.accept.specs.declared.Refusal.{Refusal}
+use Rattle.accept.specs.declared.Test.{Test}
 use Rattle.accept.specs.declared.Test.the-variants.{Passed, Failed}
 use Rattle.number.specs.Exact.{zeroᶠ}
 use Rattle.accept.specs.Answers.{Outcome}
@@ -182,21 +183,21 @@ accepted-of v c l i e p =
     let t = or-none (ltb l 1022) (ltb i 1024) (s .1) in
     record { size = b .size; whole = b .whole; corners = ltb-false c 2044 (s .0); links = ltb-false l 1022 (t .0); items = ltb-false i 1024 (t .1) }
 
-pub accepted : (v : List Float) (B : IndexBuffer) → buildTested v B ≡ Passed → Accepted v (length (B .corners)) (length (B .links)) (length (B .items))
+pub accepted : (v : List Float) (B : IndexBuffer) {t : Test} → t ≡ buildTested v B → t ≡ Passed → Accepted v (length (B .corners)) (length (B .links)) (length (B .items))
 unfolding buildTested
-accepted v B e =
-    let p = refusing-passed (boxesTested v) ShortBuffer (shortBuffer B) e in
+accepted v B tested e =
+    let p = refusing-passed (boxesTested v) ShortBuffer (shortBuffer B) (sym tested ∙ e) in
     accepted-of v (length (B .corners)) (length (B .links)) (length (B .items)) (p .1) (p .0)
 
 -- ---- all that building leaves
-pub built : (v : List Float) (B : IndexBuffer) {k : ℕ} {D : IndexBuffer} → buildTested v B ≡ Passed → record { answer = k; lent = D } ≡ grown (indexOf v) B
+pub built : (v : List Float) (B : IndexBuffer) {t : Test} {k : ℕ} {D : IndexBuffer} → t ≡ buildTested v B → t ≡ Passed → record { answer = k; lent = D } ≡ grown (indexOf v) B
     → record { answer = Sized k (boxCount v); lent = D } ≡ buildOutcome v B
 unfolding buildOutcome
-built v B e g = rw (e, grown-nodes (indexOf v) B g, grown-lent (indexOf v) B g, length-index-items v)
+built v B tested e g = rw (← tested, e, grown-nodes (indexOf v) B g, grown-lent (indexOf v) B g, length-index-items v)
 
-pub build-refused : (v : List Float) (B : IndexBuffer) {r : Refusal} → buildTested v B ≡ Failed r → record { answer = Refused r; lent = B } ≡ buildOutcome v B
+pub build-refused : (v : List Float) (B : IndexBuffer) {t : Test} {r : Refusal} → t ≡ buildTested v B → t ≡ Failed r → record { answer = Refused r; lent = B } ≡ buildOutcome v B
 unfolding buildOutcome
-build-refused v B e = rw e
+build-refused v B tested e = rw (← tested, e)
 
 -- what was built is gone once the buffer is cleared
 pub holding-cleared : (v : List Float) (B : IndexBuffer) → Accepted v (length (B .corners)) (length (B .links)) (length (B .items)) → cleared (holding (indexOf v) B) ≡ cleared B

@@ -3,6 +3,7 @@ use denote.Ref.{now}
 use native.Mathlib.Omega.{arith}
 use Rattle.set.proofs.AskLaws.{fit-within, starts-put}
 use Rattle.any.proofs.ListedLaws.{ready-listed, listed-count, answered-of}
+use Rattle.meeting.proofs.MeetingLaws.{listed-record}
 use borrow.Author.Needs.{needs}
 use Rattle.any.proofs.any_in.Statement.{statement}
 use Rattle.any.proofs.any_in.Tie as tie
@@ -42,7 +43,7 @@ part-any-holds-end : tie.Need-part-any-holds-end
 part-any-holds-end c =
     let d = c .before .before .before .before .before .before .before .before .before .before .before .before .before .before .before .before .before .before .before .before .before .before .before .before .before .before .before .before .before .before .before .before .before in
     let a = d .args in
-    let n = listed-count (now (a .v)) (now (a .counts)) (a .p) _ _ _ (d .pre .0) (now (a .boxes)) _ (d .pre .1) (c .before .before .before .before .before .before .before .before .before .before .before .before .before .before .before .before .before .before .before .before .before .before .before .put-boxes .ensures) _ _ _ _ _ _ _ _ _ (c .before .before .before .before .before .before .before .before .before .before .listed .ensures) in
+    let n = listed-count (now (a .v)) (now (a .counts)) (a .p) _ _ _ (d .pre .0) (now (a .boxes)) _ (d .pre .1) (c .before .before .before .before .before .before .before .before .before .before .before .before .before .before .before .before .before .before .before .before .before .before .before .put-boxes .ensures) _ _ _ _ _ _ _ _ _ (listed-record (c .before .before .before .before .before .before .before .before .before .before .listed .ensures)) in
     let l = d .pre .3 in
     search needs
 
@@ -77,7 +78,7 @@ returns : tie.Need-returns
 returns c =
     let d = c .before .before .before .before .before .before .before .before .before .before .before .before .before .before .before .before .before .before .before .before .before .before .before .before .before .before .before .before .before .before .before .before .before .before .before in
     let a = d .args in
-    answered-of (now (a .v)) (now (a .counts)) (a .p) _ _ _ (d .pre .0) (now (a .boxes)) _ (d .pre .1) (c .before .before .before .before .before .before .before .before .before .before .before .before .before .before .before .before .before .before .before .before .before .before .before .before .before .put-boxes .ensures) _ _ _ _ _ _ _ _ _ (c .before .before .before .before .before .before .before .before .before .before .before .before .listed .ensures) _ (c .any-holds .ensures)
+    answered-of (now (a .v)) (now (a .counts)) (a .p) _ _ _ (d .pre .0) (now (a .boxes)) _ (d .pre .1) (c .before .before .before .before .before .before .before .before .before .before .before .before .before .before .before .before .before .before .before .before .before .before .before .before .before .put-boxes .ensures) _ _ _ _ _ _ _ _ _ (listed-record (c .before .before .before .before .before .before .before .before .before .before .before .before .listed .ensures)) _ (c .any-holds .ensures)
 
 pub any-in-spec : {M : Type 1} → statement M
 any-in-spec =

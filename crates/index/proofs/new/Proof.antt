@@ -3,7 +3,6 @@ use Rattle.index.proofs.GrowLaws.{grown-nodes, index-nodes, accepted, b
 use Rattle.index.specs.Buffer.{buffer}
 use Rattle.index.specs.Answers.{buildTested}
 use native.Mathlib.Omega.{arith}
-use mathlib.Core.Path.{sym, _∙_}
 use borrow.Author.Needs.{needs}
 use Rattle.index.proofs.new.Statement.{statement}
 use Rattle.index.proofs.new.Tie as tie
@@ -19,7 +18,7 @@ unfolding buildTested
 grow-or-leaf-requires c κs =
     let a = c .before .before .before .before .before .before .before .before .before .before .args in
     accepted (a .boxes .now) (buffer (a .corners .now) (a .links .now) (a .items .now))
-    (sym (c .before .before .before .before .before .build-tested .ensures) ∙ c .before .before .before .enum-told .given .1)
+    (c .before .before .before .before .before .build-tested .ensures) (c .before .before .before .enum-told .given .1)
 
 cast-t18 : tie.Need-cast-t18
 unfolding buildTested
@@ -27,7 +26,7 @@ cast-t18 c =
     let b = c .before .before .before .before .before .before .before .before .before .before .before .before in
     let a = b .before .before .before .before .before .args in
     let A = accepted (a .boxes .now) (buffer (a .corners .now) (a .links .now) (a .items .now))
-    (sym (b .build-tested .ensures) ∙ c .before .before .before .before .before .before .before .before .before .before .enum-told .given .1) in
+    (b .build-tested .ensures) (c .before .before .before .before .before .before .before .before .before .before .enum-told .given .1) in
     let s = A .size in
     let k = index-nodes (a .boxes .now) (omega arith) in
     let n = grown-nodes _ _ (c .before .before .before .before .before .before .grow-or-leaf .ensures) in
@@ -39,7 +38,7 @@ cast-t21 c =
     let b = c .before .before .before .before .before .before .before .before .before .before .before .before in
     let a = b .before .before .before .before .before .args in
     let A = accepted (a .boxes .now) (buffer (a .corners .now) (a .links .now) (a .items .now))
-    (sym (b .build-tested .ensures) ∙ c .before .before .before .before .before .before .before .before .before .before .enum-told .given .1) in
+    (b .build-tested .ensures) (c .before .before .before .before .before .before .before .before .before .before .enum-told .given .1) in
     let s = A .size in
     search needs
 
@@ -61,7 +60,7 @@ returns c =
     let b = c .before .before .before .before .before .before .before .before .before .before .before .before in
     let a = b .before .before .before .before .before .args in
     built (a .boxes .now) (buffer (a .corners .now) (a .links .now) (a .items .now))
-    (sym (b .build-tested .ensures) ∙ c .before .before .before .before .before .before .before .before .before .before .enum-told .given .1)
+    (b .build-tested .ensures) (c .before .before .before .before .before .before .before .before .before .before .enum-told .given .1)
     (c .before .before .before .before .before .before .grow-or-leaf .ensures)
 
 returns-2 : tie.Need-returns-2
@@ -69,7 +68,7 @@ unfolding buildTested
 returns-2 c =
     let b = c .before .before .before in
     let a = b .before .before .before .before .before .args in
-    build-refused (a .boxes .now) (buffer (a .corners .now) (a .links .now) (a .items .now)) (sym (b .build-tested .ensures) ∙ c .before .t .given .1)
+    build-refused (a .boxes .now) (buffer (a .corners .now) (a .links .now) (a .items .now)) (b .build-tested .ensures) (c .before .t .given .1)
 
 pub new-spec : {M : Type 1} → statement M
 new-spec =
