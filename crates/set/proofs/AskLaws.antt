@@ -1,12 +1,12 @@
--- What a query over a set that passes the tests has, and the starts that it writes. Assumes nothing.
+-- What a query over a set that passes the tests has, and the boxes and starts that it writes. Assumes nothing.
 use mathlib.Core.Path.{_≡_, ap, _∙_}
 use mathlib.Core.Bool.{true, _||_}
 use mathlib.Core.List.{List}
-use Prim.Native.Nat.{ℕ, _+_, _≤_, _<_}
+use Prim.Native.Nat.{ℕ, _+_, _-_, _*_, _≤_, _<_}
 use native.Mathlib.Omega.{arith}
 use borrow.Author.Tests.{ltb-false, not-false}
 use lib.Dec.{ltb}
-use lib.ListN.{length, getD, drop, List·getD-append}
+use lib.ListN.{length, getD, take, drop, List·getD-append}
 use lib.Seq.{sets}
 use lib.Ieee.{Float}
 use Rattle.boundary.specs.declared.Point.{Point}
@@ -14,13 +14,14 @@ use Rattle.boundary.specs.Boxes.{pointInField}
 use Rattle.boundary.specs.Folds.{run}
 use Rattle.accept.specs.declared.Test.the-variants.{Passed}
 use Rattle.accept.proofs.TestLaws.{refusing-passed}
+use Rattle.index.specs.Answers.{Accepted}
 use Rattle.index.specs.Buffer.{IndexBuffer}
 use Rattle.entries.proofs.StoreLaws.{length-run, run-at, sets-front}
-use Rattle.index.proofs.GrowLaws.{or-none}
-use Rattle.set.specs.Set.{startOf}
+use Rattle.index.proofs.GrowLaws.{or-none, front-of}
+use Rattle.set.specs.Set.{startOf, outlinesOf, setBoxes}
 use Rattle.set.specs.Tests.{setQueryTested}
 use Rattle.set.specs.Answers.{Ready, Starts}
-use Rattle.set.proofs.SetLaws.{passed-fit, passed-fitting}
+use Rattle.set.proofs.SetLaws.{outlines-length, passed-fit, passed-fitting, boxes-length}
 
 -- ---- what a query that passes the tests has
 pub record QueryPassed (v : List Float) (cs : List ℕ) (p : Point) (B : IndexBuffer) : Type 0 where
@@ -44,6 +45,22 @@ query-passed v cs p B e =
       };
       point = not-false (pointInField p) (q .1);
     }
+
+-- ---- the boxes
+module _ (v : List Float) (cs : List ℕ) where
+  pub boxes-size : length (setBoxes (outlinesOf v cs)) ≡ 4 * length cs
+  boxes-size = boxes-length (outlinesOf v cs) ∙ ap (λ (n : ℕ). 4 * n) (outlines-length v cs)
+
+  -- the front of a list that they are put into
+  pub boxes-front : (X₀ X : List Float) → 4 * length cs ≤ length X₀ → X ≡ sets X₀ 0 (setBoxes (outlinesOf v cs)) → take (4 * length cs - 0) (drop 0 X) ≡ setBoxes (outlinesOf v cs)
+  boxes-front X₀ X room e = front-of X₀ X (setBoxes (outlinesOf v cs)) (4 * length cs) e boxes-size room
+
+  -- an index of them can be built
+  pub boxes-accepted : (B : IndexBuffer) → Ready v cs B → Accepted (setBoxes (outlinesOf v cs)) (length (B .corners)) (length (B .links)) (length (B .items))
+  boxes-accepted B r =
+      let n = boxes-size in
+      let s = r .fit .size in
+      record { size = omega arith; whole = omega arith; corners = r .corners; links = r .links; items = r .items }
 
 -- ---- the starts
 pub starts-put : (cs S₀ S : List ℕ) → length cs ≤ length S₀ → S ≡ sets S₀ 0 (run (startOf cs) 0 (length cs)) → Starts cs S
