@@ -39,10 +39,7 @@ pub extern "C" fn vk_set_nearest(
     outline: &mut u32,
     distance: &mut f64,
 ) -> u32
-    ensures { λ r. ⌜ record {
-      answer = record { number = r; found = now (found .exit); outline = now (outline .exit); distance = now (distance .exit) };
-      lent = buffer (now (corners .exit)) (now (links .exit)) (now (items .exit));
-    }
+    ensures { λ r. ⌜ record { answer = record { number = r; found = now (found .exit); outline = now (outline .exit); distance = now (distance .exit) }; lent = buffer (now (corners .exit)) (now (links .exit)) (now (items .exit)) }
         ≡ nearestCall (now (vertices .entry)) (now (counts .entry)) (record { x = x; y = y }) (buffer (now (corners .entry)) (now (links .entry)) (now (items .entry))) ⌝ }
 {
     let answer = nearest::nearest_to(vertices, counts, Point { x, y }, corners, links, items);
