@@ -28,7 +28,9 @@ use Rattle.splits.specs.Tree.{Tree, leaf, hullOf, treeIn, indexOf, itemsOf}
 use Rattle.nodes.specs.Layout.{extra, nodeOf, below, nodesOf, cornersOf, linksOf, Grown}
 use Rattle.boundary.specs.Boxes.{boxFits}
 use Rattle.index.specs.Buffer.{IndexBuffer, buffer, shortSizes, shortBuffer, holding, grown, cleared}
-use Rattle.index.specs.Answers.{boxesTested, buildTested, buildOutcome, Stored, Accepted, Cleared}
+use Rattle.index.specs.Answers.{boxesTested, buildTested, buildOutcome, buildFieldsOf, buildCall, Stored, Accepted, Cleared}
+use Rattle.index.specs.declared.BuildFields.{BuildFields}
+use Rattle.index.specs.declared.Built.{Built}
 use Rattle.index.specs.declared.Built.the-variants.{Refused, Sized}
 use Rattle.entries.proofs.StoreLaws.{length-run, sets-front, flat-length}
 use Rattle.entries.proofs.EntryLaws.{wide-held, centres-held}
@@ -198,6 +200,11 @@ built v B tested e g = rw (← tested, e, grown-nodes (indexOf v) B g, grown-len
 pub build-refused : (v : List Float) (B : IndexBuffer) {t : Test} {r : Refusal} → t ≡ buildTested v B → t ≡ Failed r → record { answer = Refused r; lent = B } ≡ buildOutcome v B
 unfolding buildOutcome
 build-refused v B tested e = rw (← tested, e)
+
+-- with its answer in the fields
+pub build-call : (v : List Float) (B : IndexBuffer) {b : Built} {f : BuildFields} {D : IndexBuffer} → record { answer = b; lent = D } ≡ buildOutcome v B → f ≡ buildFieldsOf b → record { answer = f; lent = D } ≡ buildCall v B
+unfolding buildCall
+build-call v B e told = rw told (ap (λ (o : Outcome Built IndexBuffer). record { answer = buildFieldsOf (o .answer); lent = o .lent }) e)
 
 -- what was built is gone once the buffer is cleared
 pub holding-cleared : (v : List Float) (B : IndexBuffer) → Accepted v (length (B .corners)) (length (B .links)) (length (B .items)) → cleared (holding (indexOf v) B) ≡ cleared B

@@ -57,7 +57,7 @@ buildTested v B =
 
 -- what it answers, how many nodes and items there are, and what it leaves in the buffer
 unfoldable pub buildOutcome : List Float → IndexBuffer → Outcome Built IndexBuffer
-unfolding buildTested given nodesOf itemsOf holding
+unfolding buildTested given
 buildOutcome v B = given (buildTested v B)
     (record { answer = Sized (length (nodesOf (indexOf v))) (length (itemsOf (indexOf v))); lent = holding (indexOf v) B })
     (λ r. record { answer = Refused r; lent = B })

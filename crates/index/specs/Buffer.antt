@@ -43,7 +43,6 @@ holding t B = record {
 
 -- building there: the number of the tree's nodes, and the buffer that then holds it
 unfoldable pub grown : Tree → IndexBuffer → Outcome ℕ IndexBuffer
-unfolding nodesOf holding
 grown t B = record { answer = length (nodesOf t); lent = holding t B }
 
 -- after work: zeros in all 511 nodes and 1,024 items; places past them are unchanged

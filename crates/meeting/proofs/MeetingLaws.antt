@@ -13,7 +13,8 @@ use Rattle.number.proofs.OrderLaws.{below-through, through-below}
 use Rattle.boundary.specs.declared.Bounds.{Bounds}
 use Rattle.boundary.specs.Boxes.{Around}
 use Rattle.boundary.specs.Boxes.{boxFits}
-use Rattle.accept.specs.Answers.{Outcome}
+use Rattle.accept.specs.Answers.{Outcome, numberOf, toldOf}
+use Rattle.accept.specs.declared.Answer.{Answer}
 use Rattle.accept.specs.Lists.{atFront}
 use Rattle.accept.specs.Refusals.{_refusing_when_}
 use Rattle.accept.specs.declared.Answer.the-variants.{Refused, Told}
@@ -31,7 +32,7 @@ use Rattle.index.proofs.GrowLaws.{length-index-items, accepted-of, grown-lent, 
 use Rattle.index.proofs.Theorems.{rootBox, Nested, nested, index-stands}
 use Rattle.meeting.specs.Meeting.{apart, meetingOf, visitedOf}
 use Rattle.meeting.specs.Walk.{hits, found}
-use Rattle.meeting.specs.Answers.{MeetingLent, meetingTested, listing, meetingOutcome, Listed}
+use Rattle.meeting.specs.Answers.{MeetingLent, meetingTested, listing, meetingOutcome, meetingCall, Listed}
 use Rattle.meeting.proofs.WalkLaws.{Puts, put-list, put-place, hits-level}
 
 -- ---- leaf boxes alone decide
@@ -173,6 +174,13 @@ module _ (v : List Float) (c : Bounds) (B : IndexBuffer) (S : List ℕ) where
   pub meeting-refused : {t : Test} {r : Refusal} → t ≡ meetingTested v c B S → t ≡ Failed r → record { answer = Refused r; lent = record { buffer = B; list = S } } ≡ meetingOutcome v c B S
   unfolding meetingOutcome
   meeting-refused tested e = rw (← tested, e)
+
+  -- with its answer in the fields
+  pub meeting-call : {a : Answer} {M : MeetingLent} {r n : ℕ} → record { answer = a; lent = M } ≡ meetingOutcome v c B S → r ≡ numberOf a → n ≡ toldOf a
+      → record { answer = record { number = r; count = n }; lent = M } ≡ meetingCall v c B S
+  unfolding meetingCall
+  meeting-call e number count =
+      rw (number, count) (ap (λ (o : Outcome Answer MeetingLent). record { answer = record { number = numberOf (o .answer); count = toldOf (o .answer) }; lent = o .lent }) e)
 
 -- ---- until every crate is moved
 pub listed-record : {v : List Float} {c : Bounds} {C C′ : List Float} {L L′ I I′ S S′ : List ℕ} {r : ℕ}

@@ -36,7 +36,6 @@ pub record MeetingLent : Type 0 where
 
 -- what a call that passes them leaves: how many items there are, the buffer cleared, and the items at the front of the list
 unfoldable pub listing : List Float → Bounds → IndexBuffer → List ℕ → Outcome ℕ MeetingLent
-unfolding meetingOf cleared atFront
 listing v c B S = record {
   answer = length (meetingOf c (indexOf v));
   lent = record { buffer = cleared B; list = atFront (meetingOf c (indexOf v)) S };

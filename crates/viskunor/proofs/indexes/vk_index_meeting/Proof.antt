@@ -1,4 +1,5 @@
 -- `viskunor::indexes::vk_index_meeting` meets its contract. Assumes nothing.
+use Rattle.meeting.proofs.MeetingLaws.{meeting-call}
 use borrow.Author.Needs.{needs}
 use Rattle.viskunor.proofs.indexes.vk_index_meeting.Statement.{statement}
 use Rattle.viskunor.proofs.indexes.vk_index_meeting.Tie as tie
@@ -25,9 +26,7 @@ same-length-4 : tie.Need-same-length-4
 same-length-4 c = search needs
 
 returns : tie.Need-returns
-returns c =
-    let m = c .before .before .before .before .before .before .before .before .before .before .meeting .ensures in
-    (rw (c .number-of .ensures, m .0), rw (c .before .told-of .ensures, m .0), m .1, m .2, m .3, m .4)
+returns c = meeting-call _ _ _ _ (c .before .before .before .before .before .before .before .before .before .before .meeting .ensures) (c .number-of .ensures) (c .before .told-of .ensures)
 
 pub vk-index-meeting-spec : {M : Type 1} → statement M
 vk-index-meeting-spec =
