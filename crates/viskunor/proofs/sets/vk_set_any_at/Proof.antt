@@ -1,4 +1,10 @@
 -- `viskunor::sets::vk_set_any_at` meets its contract. Assumes nothing.
+use mathlib.Core.Path.{ap}
+use Rattle.accept.specs.declared.Answer.{Answer}
+use Rattle.accept.specs.Answers.{Outcome}
+use Rattle.index.specs.Buffer.{IndexBuffer}
+use Rattle.set.specs.Answers.{inFields}
+use Rattle.any.specs.Answers.{anyFields, anyCall}
 use borrow.Author.Needs.{needs}
 use Rattle.viskunor.proofs.sets.vk_set_any_at.Statement.{statement}
 use Rattle.viskunor.proofs.sets.vk_set_any_at.Tie as tie
@@ -6,11 +12,8 @@ use Rattle.viskunor.proofs.sets.vk_set_any_at.Tie as tie
 any-at-requires : tie.Need-any-at-requires
 any-at-requires c κs = search needs
 
-told-of-requires : tie.Need-told-of-requires
-told-of-requires c κs = search needs
-
-number-of-requires : tie.Need-number-of-requires
-number-of-requires c κs = search needs
+any-fields-requires : tie.Need-any-fields-requires
+any-fields-requires c κs = search needs
 
 same-length : tie.Need-same-length
 same-length c = search needs
@@ -22,18 +25,12 @@ same-length-3 : tie.Need-same-length-3
 same-length-3 c = search needs
 
 returns : tie.Need-returns
+unfolding anyCall
 returns c =
-    let m = c .before .before .before .before .before .before .before .before .any-at .ensures in
-    (rw (c .number-of .ensures, m .0), rw (c .before .told-of .ensures, m .0), m .1, m .2, m .3)
+    let m = c .before .before .before .before .before .before .before in
+    rw (c .any-fields .ensures) (ap (λ (o : Outcome Answer IndexBuffer). inFields anyFields o) (m .any-at .ensures))
 
 pub vk-set-any-at-spec : {M : Type 1} → statement M
 vk-set-any-at-spec =
     tie.close
-    (tie.spec
-    any-at-requires
-    told-of-requires
-    number-of-requires
-    same-length
-    same-length-2
-    same-length-3
-    returns)
+    (tie.spec any-at-requires any-fields-requires same-length same-length-2 same-length-3 returns)
