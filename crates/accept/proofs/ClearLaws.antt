@@ -6,7 +6,7 @@ use native.Mathlib.Nat.{not-suc-le-zero, le-of-suc-le-suc}
 use native.Mathlib.Numerals.{add-one}
 use native.Mathlib.Omega.{arith}
 use lib.ListN.{length, set, drop, replicate, length-set, length-replicate}
-use Rattle.accept.specs.Lists.{atFront, zeros}
+use Rattle.lists.specs.Lists.{atFront, zeros}
 
 module _ {A : Type 0} (z : A) where
   set-next : (i : ℕ) (s : List A) → i < length s → set (replicate i z ++ drop i s) i z ≡ replicate (suc i) z ++ drop (suc i) s

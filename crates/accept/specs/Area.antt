@@ -4,7 +4,7 @@ use mathlib.Core.List.{List}
 use lib.IntN.{pos}
 use lib.Ieee.{Float, fin, binary64, sub, mul, div}
 use Rattle.boundary.specs.declared.Edge.{Edge}
-use Rattle.boundary.specs.Folds.{total}
+use Rattle.lists.specs.Lists.{total}
 
 -- half the shoelace sum
 abbrev pub crossOf : Edge → Float

@@ -10,7 +10,7 @@ use Rattle.number.specs.Exact.{zeroᶠ}
 use Rattle.boundary.specs.declared.Point.{Point}
 use Rattle.boundary.specs.declared.Bounds.{Bounds}
 use Rattle.boundary.specs.Boxes.{inField, pointInField, boxFits}
-use Rattle.boundary.specs.Folds.{any}
+use Rattle.lists.specs.Lists.{any}
 use Rattle.boundary.specs.Outline.{count, edges}
 use Rattle.accept.specs.declared.Refusal.{Refusal}
 use Rattle.accept.specs.declared.Refusal.the-variants.{OddCount, BadCounts, TooFew, TooMany, NotFinite, OutsideField, EqualNeighbours, ZeroArea, NegativeArea, BadPoint, BadBox, BadEllipse, ShortBuffer, LongList}

@@ -3,7 +3,7 @@ ghost use mathlib.Core.Path.{_≡_};
 ghost use Prim.Native.Nat.{_≤_};
 ghost use lib.ListN.{length};
 ghost use Rattle.number.specs.Exact.{zeroᶠ};
-ghost use Rattle.accept.specs.Lists.{atFront, zeros};
+ghost use Rattle.lists.specs.Lists.{atFront, zeros};
 
 // Zeros in the first n places.
 pub fn clear_numbers(s: &mut [f64], n: usize)

@@ -6,7 +6,7 @@ ghost use mathlib.Core.List.{List};
 ghost use lib.Ieee.{Float, binary64, add, div};
 ghost use lib.Ieee.Scale.{finite};
 ghost use Rattle.boundary.specs.Boxes.{inField, boxFits};
-ghost use Rattle.boundary.specs.Folds.{any};
+ghost use Rattle.lists.specs.Lists.{any};
 ghost use Rattle.boundary.specs.Outline.{edges};
 ghost use Rattle.accept.specs.declared.Test.{Test};
 ghost use Rattle.accept.specs.Area.{crossOf, two, areaOf};

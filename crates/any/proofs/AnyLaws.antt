@@ -4,9 +4,8 @@ use mathlib.Core.Bool.{Bool, true, false, _||_}
 use mathlib.Core.List.{List}
 use Prim.Native.Nat.{ℕ, _+_, _<_}
 use lib.ListN.{length, getD, drop}
-use Rattle.boundary.specs.Folds.{fold, any}
-use Rattle.boundary.proofs.FoldLaws.{fold-drop-next}
-use Rattle.set.proofs.AnyLaws.{any-from}
+use Rattle.lists.proofs.FoldLaws.{fold-drop-next, any-from}
+use Rattle.lists.specs.Lists.{fold, any}
 
 module _ {A : Type 0} (p : A → Bool) where
   -- a search from the first member on: member i passes, or the search goes on

@@ -10,10 +10,9 @@ use lib.Seq.{sets, take-at}
 use lib.Ieee.{Float}
 use Rattle.boundary.specs.declared.Point.{Point}
 use Rattle.boundary.specs.Boxes.{spot}
-use Rattle.boundary.specs.Folds.{any}
+use Rattle.lists.specs.Lists.{any, atFront}
 use Rattle.accept.specs.declared.Test.the-variants.{Passed}
 use Rattle.accept.specs.Answers.{Outcome}
-use Rattle.accept.specs.Lists.{atFront}
 use Rattle.splits.specs.Tree.{indexOf}
 use Rattle.index.specs.Buffer.{IndexBuffer}
 use Rattle.index.specs.Answers.{boxesTested, Accepted}

@@ -8,14 +8,13 @@ use borrow.Author.Tests.{eqb-true, ltb-true, ltb-false}
 use lib.Dec.{eqb, ltb}
 use lib.ListN.{length}
 use Rattle.boundary.specs.declared.Point.{Point}
-use Rattle.boundary.specs.Folds.{run, fold, any, oddly}
+use Rattle.lists.specs.Lists.{run, fold, any, oddly, times, In}
 use Rattle.boundary.specs.Outline.{edges}
 use Rattle.geometry.specs.Polygon.{containsOf}
-use Rattle.sorts.specs.Sort.{times, In}
 use Rattle.meeting.specs.Meeting.{apart}
 use Rattle.meeting.proofs.Theorems.{meeting-lists}
 use Rattle.set.specs.Set.{Outline, setBox, setBoxes, Fitting, DoubleSet}
-use Rattle.set.proofs.AnyLaws.{any-from}
+use Rattle.lists.proofs.FoldLaws.{any-from}
 use Rattle.set.proofs.SetLaws.{outline-past, boxes-length, box-at-set, boxes-tested, box-field}
 use Rattle.boundary.specs.Boxes.{spot}
 use Rattle.any.specs.Answers.{listedAt, containsIn, anyAt}

@@ -2,7 +2,7 @@
 ghost use mathlib.Core.Path.{_≡_};
 ghost use Prim.Native.Nat.{_*_, _≤_};
 ghost use lib.ListN.{length};
-ghost use Rattle.boundary.specs.Folds.{any};
+ghost use Rattle.lists.specs.Lists.{any};
 ghost use Rattle.index.specs.Buffer.{buffer};
 ghost use Rattle.set.specs.Set.{startOf, outlinesOf};
 ghost use Rattle.set.specs.Answers.{worked, Ready, Starts};
@@ -46,7 +46,7 @@ fn any_holds(v: &[f64], counts: &[u32], starts: &[u32], list: &[u32], p: Point) 
 {
     let mut i = 0;
     while i < list.len() {
-        if holds_at(v, counts, starts, sorts::at(list, i) as usize, p) {
+        if holds_at(v, counts, starts, lists::at(list, i) as usize, p) {
             return true;
         }
         i += 1;

@@ -15,7 +15,7 @@ use Rattle.algebra.specs.Lin as Lin
 use Rattle.algebra.specs.Lin.{le-from}
 use Rattle.algebra.specs.Order.{_≦_, _≺_, Within, within-natAbs, ≤ℤ-trans, ≤ℤ-or-<ℤ, <ℤ→≤ℤ, mul-nonneg, mul-le, le-of-within, pos-nonneg}
 use Rattle.algebra.specs.Mono.{mul-mono}
-use Rattle.number.specs.Exact.{Is, Sized, Held, zeroᶠ}
+use Rattle.number.specs.Exact.{Is, Sized, Held, zeroᶠ, one}
 use Rattle.number.specs.Hypot.{Short}
 use Rattle.number.specs.Rounding.{Rounds}
 use Rattle.signs.specs.Signs.{clampOf}
@@ -26,7 +26,7 @@ use Rattle.number.proofs.OrderLaws.{is-order, le-self, not-below, below-le, fin
 use Rattle.number.proofs.Values.{held-not-nan, add-grown, sub-grown, is-rounds, is-short, products-held, quotient-not-nan}
 use Rattle.boundary.specs.declared.Point.{Point}
 use Rattle.boundary.specs.declared.Edge.{Edge}
-use Rattle.boundary.specs.Line.{one, paramOf, alongOf}
+use Rattle.boundary.specs.Line.{paramOf, alongOf}
 use Rattle.boundary.specs.Boxes.{FieldValue, FieldPoint, FieldEdge, Between, Share, lesser, greater, hair}
 use Rattle.boundary.proofs.FieldLaws.{field-held, field-is, field-not-nan, way-of, field-sub}
 

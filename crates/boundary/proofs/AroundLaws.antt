@@ -5,7 +5,8 @@ use lib.Ieee.{Float, nan, inf, fin, lt, le, isNan}
 use Rattle.number.proofs.OrderLaws.{le-self, le-through}
 use Rattle.boundary.specs.declared.Bounds.{Bounds}
 use Rattle.boundary.specs.Boxes.{BoxOf, Around, hull, nowhere}
-use Rattle.boundary.proofs.AlongLaws.{ends-between, one-of}
+use Rattle.number.proofs.Basics.{one-of}
+use Rattle.boundary.proofs.AlongLaws.{ends-between}
 
 -- ---- boxes without NaN
 abbrev pub Number : Float → Type 0

@@ -15,7 +15,7 @@ use Rattle.algebra.specs.Lin as Lin
 use Rattle.algebra.specs.Lin.{le-from}
 use Rattle.algebra.specs.Order.{_≦_, mul-nonneg, mul-le, natAbs-mul, pos-nonneg}
 use Rattle.algebra.specs.Mono.{mul-mono}
-use Rattle.number.specs.Exact.{Is, Held, zeroᶠ}
+use Rattle.number.specs.Exact.{Is, Held, zeroᶠ, one}
 use Rattle.number.specs.Hypot.{Short}
 use Rattle.number.specs.Rounding.{Rounds}
 use Rattle.signs.specs.Signs.{absOf, maxOf}
@@ -29,10 +29,11 @@ use Rattle.number.proofs.Values.{held-not-nan, rounded-natAbs, is-rounds, round
 use Rattle.boundary.specs.declared.Point.{Point}
 use Rattle.boundary.specs.declared.Edge.{Edge}
 use Rattle.boundary.specs.declared.Bounds.{Bounds}
-use Rattle.boundary.specs.Line.{one, paramOf, alongOf, footOf, lineNear}
+use Rattle.boundary.specs.Line.{paramOf, alongOf, footOf, lineNear}
 use Rattle.boundary.specs.Boxes.{PointOf, FieldValue, FieldPoint, FieldEdge, FieldBox, FiniteBox, Between, Share, Inside, lesser, greater, hull, edgeBox, hair, nano, scaleOf, widenedBy, widenedOf, Around, gapAlong, gapOf}
 use Rattle.boundary.proofs.FieldLaws.{field-held, field-is, field-box-finite, field-not-nan, is-field, field-abs, field-sub, field-add, widened-finite}
-use Rattle.boundary.proofs.AlongLaws.{param-share, along-inside, along-widened, ends-between, one-of, along-fits, between-held, along-short}
+use Rattle.number.proofs.Basics.{one-of}
+use Rattle.boundary.proofs.AlongLaws.{param-share, along-inside, along-widened, ends-between, along-fits, between-held, along-short}
 
 -- ---- an edge's box
 

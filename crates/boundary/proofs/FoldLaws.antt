@@ -7,7 +7,7 @@ use native.Mathlib.Numerals.{add-one}
 use native.Mathlib.Omega.{arith}
 use lib.ListN.{length, getD, drop}
 use lib.Seq.{drop-cons, drop-length}
-use Rattle.boundary.specs.Folds.{run, fold, any}
+use Rattle.lists.specs.Lists.{run, fold, any}
 
 module _ {A B : Type 0} (f : A → B → A) where
   -- over the run g i, g (i + 1), .. up to g n, that one not included

@@ -3,13 +3,12 @@ use mathlib.Core.Bool.{Bool, true, false, cond, _&&_}
 use lib.Dec.{T}
 use lib.IntN.{pos, negsuc}
 use lib.Ieee.{Float, fin, inf, binary64, add, sub, mul, neg, lt, le, fits}
-use Rattle.number.specs.Exact.{Held, zeroᶠ}
+use Rattle.number.specs.Exact.{Held, zeroᶠ, one}
 use Rattle.number.specs.Hypot.{hypotOf}
 use Rattle.signs.specs.Signs.{absOf, maxOf}
 use Rattle.boundary.specs.declared.Point.{Point}
 use Rattle.boundary.specs.declared.Edge.{Edge}
 use Rattle.boundary.specs.declared.Bounds.{Bounds}
-use Rattle.boundary.specs.Line.{one}
 
 -- ---- the *field* (document 01): every finite number of magnitude at most 1,048,576
 abbrev pub limit : Float

@@ -3,7 +3,7 @@ use mathlib.Core.List.{List}
 use lib.Ieee.{Float, binary64, sub}
 use Rattle.number.specs.Hypot.{hypotOf}
 use Rattle.boundary.specs.declared.Edge.{Edge}
-use Rattle.boundary.specs.Folds.{total}
+use Rattle.lists.specs.Lists.{total}
 
 unfoldable pub edgeLength : Edge → Float
 unfolding hypotOf sub

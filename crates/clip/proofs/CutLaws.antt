@@ -14,13 +14,12 @@ use Rattle.algebra.specs.Quote.{quote}
 use Rattle.algebra.specs.Lin as L
 use Rattle.algebra.specs.Lin.{le-from}
 use Rattle.algebra.specs.Order.{_≦_, _≺_}
-use Rattle.number.specs.Exact.{Is, zeroᶠ}
+use Rattle.number.specs.Exact.{Is, zeroᶠ, one}
 use Rattle.number.specs.Rounding.{Rounds}
 use Rattle.number.proofs.Operations.{zero-is, div-rounds}
 use Rattle.number.proofs.Compare.{lt-is, →eq, is-lt, not-lt}
 use Rattle.number.proofs.RoundingLaws.{rounds-order}
 use Rattle.number.proofs.OrderLaws.{over, places, le-not-below}
-use Rattle.boundary.specs.Line.{one}
 use Rattle.clip.specs.Passes.{cutAt}
 
 -- ---- a fraction that is 0 at most, rounded, is not above 0; one that is 1 at least is not below 1

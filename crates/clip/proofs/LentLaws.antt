@@ -10,13 +10,12 @@ use lib.ListN.{length, getD, set, drop, length-append, length-set, length-drop}
 use lib.Seq.{getD-set-same, getD-set-other, getD-drop, ext-getD}
 use lib.Ieee.{Float, nan}
 use Rattle.boundary.specs.declared.Edge.{Edge}
-use Rattle.boundary.specs.Folds.{run}
-use Rattle.boundary.proofs.RunLaws.{run-last}
+use Rattle.lists.proofs.RunLaws.{run-last, run-same}
+use Rattle.lists.specs.Lists.{run}
 use Rattle.clip.specs.declared.Pen.{Pen}
 use Rattle.clip.specs.declared.State.{State}
 use Rattle.clip.specs.Passes.{Path, if-on, lineOf, joinsOf, movedOf, followed, nothing, nowhere, closed}
 use Rattle.clip.specs.Lent.{lineAt, lineIn, linesFrom, putAt, apart, Beside, Holds, Tracks}
-use Rattle.clip.proofs.Runs.{run-same}
 
 -- ---- nothing changed but a range
 module _ {to size : ℕ} where

@@ -8,14 +8,14 @@ use lib.ListN.{length, take, drop}
 use lib.Ieee.{Float, eq}
 use Rattle.boundary.specs.declared.Point.{Point}
 use Rattle.boundary.specs.declared.Edge.{Edge}
-use Rattle.boundary.specs.Folds.{fold, any}
-use Rattle.boundary.specs.Line.{one, alongOf}
-use Rattle.number.specs.Exact.{zeroᶠ}
+use Rattle.lists.specs.Lists.{fold, any}
+use Rattle.boundary.specs.Line.{alongOf}
+use Rattle.number.specs.Exact.{zeroᶠ, one}
 use Rattle.clip.specs.declared.Side.{Side}
 use Rattle.clip.specs.declared.Marks.{Marks}
 use Rattle.clip.specs.Clip.{at, coordOf, inside, crossing, crosses, Part, partOf, partsOf, parts, lead, lastKept, turned, keptLines, joint, onward, joined, clipOf}
 use Rattle.clip.specs.Passes.{markAt, uncutOf, marksBetween, marksOf, firstOf, secondOf, comesIn, startOf, Path, samePlace, if-on, lineOf, followed, stepOf, nothing, closed, traced}
-use Rattle.clip.proofs.Runs.{fold-append}
+use Rattle.lists.proofs.FoldLaws.{fold-append}
 
 -- ---- the parts of one line
 abbrev blocks : Bool → Bool → Bool → Edge → Edge → List Part

@@ -10,15 +10,14 @@ use lib.Dec.{ltb}
 use lib.ListN.{length}
 use lib.Ieee.{Float}
 use Rattle.boundary.specs.declared.Edge.{Edge}
-use Rattle.boundary.specs.Folds.{run, fold, any}
-use Rattle.boundary.proofs.RunLaws.{run-last}
+use Rattle.lists.proofs.RunLaws.{run-last, length-run, take-run, drop-run}
+use Rattle.lists.specs.Lists.{run, fold, any}
 use Rattle.clip.specs.declared.Side.{Side}
 use Rattle.clip.specs.declared.Survey.{Survey}
 use Rattle.clip.specs.declared.Stored.{Stored}
 use Rattle.clip.specs.Clip.{parts, lastKept, clipOf}
 use Rattle.clip.specs.Passes.{startOf, surveyOf, traced}
 use Rattle.clip.specs.Lent.{apart, Holds, placeOf, Stage}
-use Rattle.clip.proofs.Runs.{length-run, take-run, drop-run}
 use Rattle.clip.proofs.PassLaws.{no-entry-out, no-entry-kept, entry, traced-turned, last-line, last-dropped, clip-all, clip-some, clip-none}
 
 -- ---- the halves

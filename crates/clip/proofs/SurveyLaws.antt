@@ -8,7 +8,7 @@ use native.Mathlib.Omega.{arith}
 use lib.ListN.{getD}
 use lib.Ieee.{Float, nan}
 use Rattle.boundary.specs.declared.Edge.{Edge}
-use Rattle.boundary.specs.Folds.{run}
+use Rattle.lists.specs.Lists.{run}
 use Rattle.clip.specs.declared.Side.{Side}
 use Rattle.clip.specs.declared.Marks.{Marks}
 use Rattle.clip.specs.Passes.{marksBetween, marksOf, comesIn, startOf}

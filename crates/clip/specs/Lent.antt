@@ -8,7 +8,7 @@ use lib.Dec.{ltb}
 use lib.ListN.{length, getD, set, drop}
 use lib.Ieee.{Float, nan}
 use Rattle.boundary.specs.declared.Edge.{Edge}
-use Rattle.boundary.specs.Folds.{run, any}
+use Rattle.lists.specs.Lists.{run, any}
 use Rattle.clip.specs.declared.Side.{Side}
 use Rattle.clip.specs.declared.State.{State}
 use Rattle.clip.specs.declared.Stored.{Stored}

@@ -5,7 +5,7 @@ ghost use mathlib.Core.List.{List, _++_};
 ghost use Prim.Native.Nat.{_+_, _-_, _*_, _<_, _≤_};
 ghost use lib.ListN.{length};
 ghost use Rattle.boundary.specs.declared.Edge.{Edge};
-ghost use Rattle.boundary.specs.Folds.{fold};
+ghost use Rattle.lists.specs.Lists.{fold};
 ghost use Rattle.clip.specs.Passes.{Path, samePlace, if-on, lineOf, joinsOf, movedOf, followed, stepOf, nowhere, traced};
 ghost use Rattle.clip.specs.Lent.{lineAt, linesFrom, putAt, apart, Beside, Holds, Tracks};
 use crate::Pen;

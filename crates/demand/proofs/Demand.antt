@@ -32,8 +32,9 @@ use Rattle.nearest.specs.declared.Nearest.the-variants.{At}
 use Rattle.nearest.specs.Nearest.{nearestIn}
 use Rattle.nearest.specs.Answers.{nearestOutcome}
 use Rattle.nearest.proofs.Theorems.{least-is}
-use Rattle.exact.specs.Whole.{PointZ}
-use Rattle.exact.specs.Grid.{PointOn, OutlineOn}
+use Rattle.grid.specs.Grid.{OutlineOn}
+use Rattle.grid.specs.Whole.{PointZ}
+use Rattle.exact.specs.Grid.{PointOn}
 use Rattle.exact.proofs.OneOutline.{grid-exact}
 use Rattle.exact.proofs.Tests.{grid-in-field}
 use Rattle.demand.specs.Demand.{OutlineExact, Demand3}

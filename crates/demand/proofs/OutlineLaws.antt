@@ -7,18 +7,18 @@ use native.Mathlib.Omega.{arith}
 use borrow.Author.Tests.{le-ltb, ne-eqb}
 use lib.ListN.{length, getD, take, drop}
 use lib.Ieee.{Float}
-use Rattle.boundary.specs.Folds.{any}
+use Rattle.lists.specs.Lists.{any, Each}
 use Rattle.boundary.specs.Outline.{count}
-use Rattle.boundary.proofs.FoldLaws.{any-at}
+use Rattle.lists.proofs.FoldLaws.{any-at}
 use Rattle.accept.specs.declared.Test.the-variants.{Passed}
 use Rattle.accept.specs.Refusals.{notFinite, outsideField, equalNeighbours, zeroArea, negativeArea, outlineTested, signTested}
 use Rattle.accept.proofs.TestLaws.{Shape, tested}
 use Rattle.set.specs.Set.{Outline, startOf, outlineAt, outlinesOf, outlineIn}
 use Rattle.set.specs.Tests.{setTested}
 use Rattle.set.proofs.SetLaws.{outlines-length, outline-is, passed-fit, outline-length, passing}
-use Rattle.exact.specs.Grid.{Each, OutlineOn}
-use Rattle.exact.specs.Grid.Each.{none, more}
-use Rattle.exact.proofs.EachLaws.{take-each}
+use Rattle.grid.specs.Grid.{OutlineOn}
+use Rattle.lists.proofs.MemberLaws.{take-each}
+use Rattle.lists.specs.Lists.Each.{none, more}
 
 -- ---- the tests
 module _ (v : List Float) (cs : List ℕ) (passed : setTested v cs ≡ Passed) (k : ℕ) (l : k < length (outlinesOf v cs)) where

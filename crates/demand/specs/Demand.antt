@@ -19,7 +19,7 @@ use Rattle.search.specs.Least.{magnitudeAt}
 use Rattle.nearest.specs.declared.Nearest.the-variants.{At}
 use Rattle.nearest.specs.Nearest.{NearestIs}
 use Rattle.nearest.specs.Answers.{nearestOutcome}
-use Rattle.exact.specs.Whole.{PointZ, EdgeZ, shoelaceZ, locationZ}
+use Rattle.grid.specs.Whole.{PointZ, EdgeZ, shoelaceZ, locationZ}
 use Rattle.exact.specs.Grid.{EdgesOn}
 use Rattle.exact.specs.Distance.{SignedNear}
 

@@ -23,7 +23,7 @@ use Rattle.boundary.specs.declared.Point.{Point}
 use Rattle.boundary.specs.declared.Edge.{Edge}
 use Rattle.boundary.specs.declared.Near.{Near}
 use Rattle.distance.specs.declared.Found.{Found}
-use Rattle.boundary.specs.Folds.{run, fold, any}
+use Rattle.lists.specs.Lists.{run, fold, any}
 use Rattle.boundary.specs.Outline.{count, after, vertexAt, edgeAt, edges}
 use Rattle.boundary.specs.Line.{lessPoint, squaresOf, footOf, normalOf, lineNear}
 use Rattle.pieces.specs.Piece.{lineOf, pieceNear}
@@ -32,7 +32,7 @@ use Rattle.boundary.specs.Boxes.{inField, pointInField, edgeInField, PointOf, F
 use Rattle.distance.specs.Search.{margin, outside, gapSquares, lengthTo, foundOf, wins}
 use Rattle.boundary.proofs.AlongLaws.{param-share}
 use Rattle.boundary.proofs.BoxLaws.{along-out, foot-short}
-use Rattle.boundary.proofs.FoldLaws.{fold-run-next, fold-run-end, any-at}
+use Rattle.lists.proofs.FoldLaws.{fold-run-next, fold-run-end, any-at}
 
 -- ---- an edge that is left out
 

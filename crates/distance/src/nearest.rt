@@ -5,7 +5,7 @@ ghost use Prim.Native.Nat.{_<_};
 ghost use lib.Dec.{eqb};
 ghost use lib.Ieee.{inf, lt};
 ghost use Rattle.number.specs.Hypot.{clearLimit, Short};
-ghost use Rattle.boundary.specs.Folds.{any};
+ghost use Rattle.lists.specs.Lists.{any};
 ghost use Rattle.boundary.specs.Outline.{count, edges};
 ghost use Rattle.boundary.specs.Boxes.{inField, pointInField, edgeInField, PointOf};
 ghost use Rattle.boundary.specs.Line.{lessPoint, squaresOf, footOf, normalOf, lineNear};

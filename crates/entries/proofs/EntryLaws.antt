@@ -10,10 +10,11 @@ use lib.Ieee.{Float, nan, add, mul}
 use borrow.Author.Tests.{ltb-true, ltb-false}
 use Rattle.boundary.specs.declared.Bounds.{Bounds}
 use Rattle.boundary.specs.Boxes.{widenedOf}
-use Rattle.boundary.specs.Folds.{run}
+use Rattle.lists.specs.Lists.{run}
 use Rattle.sorts.specs.Keys.{keyIn}
 use Rattle.entries.specs.Entries.{boxCount, boxAt, boxNumbers, wideAt, centreOf, pointIn}
-use Rattle.entries.proofs.StoreLaws.{length-run, run-at, flat-length, flat-at}
+use Rattle.lists.proofs.StoreLaws.{flat-length, flat-at}
+use Rattle.lists.proofs.RunLaws.{length-run, run-at}
 
 -- a box of which no number is there
 abbrev noBox : Bounds

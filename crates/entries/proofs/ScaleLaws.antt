@@ -10,13 +10,11 @@ use lib.Ieee.{Float, nan, inf, fin, binary64, up, down, neg, lt, le, eq, isNan, 
 use lib.Ieee.Bits.{is-true, is-false}
 use lib.Ieee.Fits.{and-l, up-pos, down-pos, neg-fits}
 use borrow.Author.Tests.{lt-ltb, le-ltb, ne-eqb, eqb-true}
-use Rattle.number.specs.Exact.{zeroᶠ}
+use Rattle.number.specs.Exact.{zeroᶠ, one}
 use Rattle.signs.specs.Signs.{signBit, withSign, absOf, before, maxOf}
 use Rattle.number.proofs.Units.{value-unique}
-use Rattle.number.proofs.OrderLaws.{le-through, not-below, below-le, level-le, below-not-le, below-through, right-not-nan}
-use Rattle.boundary.specs.Line.{one}
-use Rattle.boundary.proofs.AlongLaws.{one-of}
-use Rattle.sorts.proofs.Order.{above-sign}
+use Rattle.number.proofs.OrderLaws.{le-through, not-below, below-le, level-le, below-not-le, below-through, right-not-nan, above-sign}
+use Rattle.number.proofs.Basics.{one-of}
 
 -- ---- against a magnitude
 none-of : (b : Bool) → (T b → ⊥) → b ≡ false

@@ -7,8 +7,8 @@ use native.Mathlib.Numerals.{add-one}
 use native.Mathlib.Omega.{arith}
 use lib.ListN.{length, getD, set, drop, length-append, List·getD-append}
 use lib.Seq.{drop-length, set-comm, sets, sets-eq, getD-append-add}
-use Rattle.boundary.specs.Folds.{run}
-use Rattle.boundary.proofs.RunLaws.{run-last}
+use Rattle.lists.proofs.RunLaws.{run-last}
+use Rattle.lists.specs.Lists.{run}
 
 pub length-run : {A : Type 0} (g : ℕ → A) (i k : ℕ) → length (run g i k) ≡ k
 unfolding run

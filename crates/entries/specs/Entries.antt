@@ -7,7 +7,7 @@ use Rattle.boundary.specs.declared.Point.{Point}
 use Rattle.boundary.specs.declared.Bounds.{Bounds}
 use Rattle.boundary.specs.Boxes.{widenedOf}
 use Rattle.boundary.specs.Line.{middle}
-use Rattle.boundary.specs.Folds.{run}
+use Rattle.lists.specs.Lists.{run}
 use Rattle.sorts.specs.Keys.{keyIn}
 
 -- how many boxes the numbers of v are

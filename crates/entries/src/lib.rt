@@ -7,9 +7,9 @@ ghost use lib.Ieee.{nan, le};
 ghost use lib.ListN.{length, getD, set};
 ghost use lib.Seq.{sets};
 ghost use Rattle.signs.specs.Signs.{absOf, maxOf};
-ghost use Rattle.boundary.specs.Line.{one};
+ghost use Rattle.number.specs.Exact.{one};
 ghost use Rattle.boundary.specs.Boxes.{scaleOf, widenedOf};
-ghost use Rattle.boundary.specs.Folds.{run};
+ghost use Rattle.lists.specs.Lists.{run};
 ghost use Rattle.entries.specs.Entries.{boxCount, boxAt, boxNumbers, wideAt, centreOf};
 use boundary::Bounds;
 use boundary::Point;
@@ -169,7 +169,7 @@ pub fn count_up(items: &mut [u32])
 {
     let mut i = 0;
     while i < items.len() {
-        sorts::put(items, i, i as u32);
+        lists::put(items, i, i as u32);
         i += 1;
     }
 }

@@ -9,11 +9,11 @@ use Rattle.algebra.specs.Quote.{quote}
 use Rattle.algebra.specs.Order.{_≦_, _≺_, within-of-sq, ≤ℤ-antisym, ≤ℤ-or-<ℤ, mul-le, mul-pos, sq-nonneg}
 use Rattle.algebra.specs.Lin.{le, eq, le-from, eq-from}
 use Rattle.algebra.specs.Mono.{mul-cancel-eq}
-use Rattle.exact.specs.Whole.{PointZ, EdgeZ, turnZ, onEdgeZ}
-use Rattle.exact.specs.Distance.{Stand, standOf, squaresZ, lengthZ, dotZ, numOf, numZ, Ratio}
-use Rattle.exact.specs.Distance.Stand.{before, beside, past}
-use Rattle.exact.proofs.Line.{product-scaled, on-edge}
-use Rattle.exact.proofs.Standing.{stands, reach, reach-ratio}
+use Rattle.grid.proofs.Standing.{stands, reach, reach-ratio}
+use Rattle.grid.proofs.Line.{product-scaled, on-edge}
+use Rattle.grid.specs.Distance.Stand.{before, beside, past}
+use Rattle.grid.specs.Distance.{Stand, standOf, squaresZ, lengthZ, dotZ, numOf, numZ, Ratio}
+use Rattle.grid.specs.Whole.{PointZ, EdgeZ, turnZ, onEdgeZ}
 
 zero-square : (x : ℤ) → x *ℤ x ≦ pos 0 → x ≡ pos 0
 zero-square x h = let w = within-of-sq x {d = pos 0} (record { le = tt }) h in ≤ℤ-antisym (w .high) (w .low)

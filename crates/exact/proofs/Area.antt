@@ -11,11 +11,11 @@ use Rattle.number.specs.Exact.{Is, Sized}
 use Rattle.number.proofs.Operations.{zero-is}
 use Rattle.number.proofs.ExactLaws.{half-is, add-sized, sub-sized, mul-sized}
 use Rattle.boundary.specs.declared.Edge.{Edge}
-use Rattle.boundary.specs.Folds.{fold, total}
+use Rattle.lists.specs.Lists.{fold, total}
 use Rattle.accept.specs.Area.{crossOf, areaOf}
-use Rattle.exact.specs.Whole.{EdgeZ, crossZ, shoelaceZ}
+use Rattle.grid.specs.Whole.{EdgeZ, crossZ, shoelaceZ}
 use Rattle.exact.specs.Grid.{EdgeOn, EdgesOn}
-use Rattle.exact.specs.Grid.Each.{none, more}
+use Rattle.lists.specs.Lists.Each.{none, more}
 
 cross-exact : {e : Edge} {f : EdgeZ} → EdgeOn e f → Sized 20 (2 ^ 41) (crossOf e) (crossZ f)
 unfolding crossZ

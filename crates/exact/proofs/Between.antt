@@ -18,7 +18,7 @@ use Rattle.number.specs.Exact.{Is}
 use Rattle.number.proofs.Basics.{or-l, or-r, or-split}
 use Rattle.number.proofs.Compare.{same-bool, lt-true, lt-false, not-lt, lt-is, le-is}
 use Rattle.geometry.specs.Polygon.{between}
-use Rattle.exact.specs.Whole.{betweenZ}
+use Rattle.grid.specs.Whole.{betweenZ}
 
 -- ---- on floats
 -- from the lesser end to the greater

@@ -24,21 +24,22 @@ use Rattle.boundary.specs.declared.Point.{Point}
 use Rattle.boundary.specs.declared.Edge.{Edge}
 use Rattle.boundary.specs.declared.Near.{Near}
 use Rattle.boundary.specs.declared.Distance.{Distance}
-use Rattle.boundary.specs.Folds.{fold, any}
+use Rattle.lists.specs.Lists.{fold, any, Every, Some}
 use Rattle.boundary.specs.Line.{lineNear}
 use Rattle.pieces.specs.Piece.{pieceNear}
 use Rattle.distance.specs.Nearest.{nearer, farAway, nearestOf, roundingOf, flipped, signedOf}
 use Rattle.geometry.specs.Polygon.{containsOf}
 use Rattle.accept.specs.Refusals.{samePoint}
-use Rattle.exact.specs.Whole.{PointZ, EdgeZ, onEdgeZ, boundaryZ, insideZ, locationZ}
+use Rattle.grid.specs.Whole.{PointZ, EdgeZ, onEdgeZ, boundaryZ, insideZ, locationZ}
 use Rattle.exact.specs.Grid.{PointOn, EdgeOn, EdgesOn}
-use Rattle.exact.specs.Grid.Each.{none, more}
-use Rattle.exact.specs.Distance.{lengthZ, numZ, denZ, part, AtMost, AtLeast, Near24, Every, Some, NearLeast, SignedNear}
+use Rattle.lists.specs.Lists.Each.{none, more}
+use Rattle.grid.specs.Distance.{lengthZ, numZ, denZ}
+use Rattle.exact.specs.Distance.{part, AtMost, AtLeast, Near24, NearLeast, SignedNear}
 use Rattle.exact.specs.Distance.Every.{empty, also}
-use Rattle.exact.specs.Distance.Some.{here, there}
-use Rattle.exact.proofs.EachLaws.{every-fails}
+use Rattle.lists.proofs.FoldLaws.{every-fails}
+use Rattle.lists.specs.Lists.Some.{here, there}
 use Rattle.exact.proofs.Location.{contains-exact}
-use Rattle.exact.proofs.Apart.{zero-squares, off-edge-apart}
+use Rattle.grid.proofs.Apart.{zero-squares, off-edge-apart}
 use Rattle.exact.proofs.EdgeDistance.{den-nonneg, den-small, edge-near}
 
 -- ---- edges with different ends have a length

@@ -5,10 +5,8 @@ use mathlib.Core.List.{List, [], _∷_, reverse, reverseAux}
 use Prim.Native.Nat.{ℕ, zero, suc}
 use lib.Dec.{T}
 use lib.ListN.{length, take}
-use Rattle.boundary.specs.Folds.{fold, any}
-use Rattle.exact.specs.Grid.{Each}
-use Rattle.exact.specs.Grid.Each.{none, more}
-use Rattle.exact.specs.Distance.{Every}
+use Rattle.lists.specs.Lists.Each.{none, more}
+use Rattle.lists.specs.Lists.{fold, any, Each, Every}
 use Rattle.exact.specs.Distance.Every.{empty, also}
 
 module _ {A B : Type 0} {R : A → B → Type 0} where

@@ -14,7 +14,7 @@ use Rattle.algebra.specs.Order.{_≦_, _≺_, ord, Within, within-natAbs, le-of
 use Rattle.algebra.specs.Lin as L
 use Rattle.algebra.specs.Lin.{le-from}
 use Rattle.algebra.specs.Mono.{mul-mono, mul-cancel}
-use Rattle.number.specs.Exact.{Is, Sized}
+use Rattle.number.specs.Exact.{Is, Sized, one}
 use Rattle.number.specs.Rounding.{Result}
 use Rattle.number.specs.Hypot.{hypotOf}
 use Rattle.number.proofs.Operations.{zero-is, rescale}
@@ -24,14 +24,16 @@ use Rattle.number.proofs.Compare.{lt-is, lt-true, eq→}
 use Rattle.number.proofs.HypotError.{HypotNear, hypot-relative}
 use Rattle.boundary.specs.declared.Point.{Point}
 use Rattle.boundary.specs.declared.Edge.{Edge}
-use Rattle.boundary.specs.Line.{one, wayOf, squaresOf, paramOf, alongOf, footOf, lineNear}
-use Rattle.exact.specs.Whole.{PointZ, EdgeZ}
-use Rattle.exact.specs.Grid.{OnGrid, PointOn, EdgeOn}
-use Rattle.exact.specs.Distance.{Stand, standOf, dotZ, lengthZ, denOf, numZ, denZ, step, part, Near24}
-use Rattle.exact.specs.Distance.Stand.{before, beside, past}
+use Rattle.boundary.specs.Line.{wayOf, squaresOf, paramOf, alongOf, footOf, lineNear}
+use Rattle.grid.specs.Grid.{OnGrid}
+use Rattle.grid.specs.Whole.{PointZ, EdgeZ}
+use Rattle.exact.specs.Grid.{PointOn, EdgeOn}
+use Rattle.grid.specs.Distance.{Stand, standOf, dotZ, lengthZ, denOf, numZ, denZ}
+use Rattle.exact.specs.Distance.{step, part, Near24}
+use Rattle.grid.specs.Distance.Stand.{before, beside, past}
 use Rattle.exact.proofs.OneEdge.{difference, product}
-use Rattle.exact.proofs.Standing.{stands, reach}
-use Rattle.exact.proofs.LeastDistance.{reach-square}
+use Rattle.grid.proofs.LeastDistance.{reach-square}
+use Rattle.grid.proofs.Standing.{stands, reach}
 use Rattle.exact.proofs.Parameter.{U, E, U0, E0, one-is, Param, clamped}
 use Rattle.exact.proofs.Chain as C
 

@@ -6,10 +6,10 @@ use lib.IntN.{ℤ, pos, _+ℤ_, _-ℤ_, _*ℤ_}
 use Rattle.algebra.specs.Quote.{quote, ring}
 use Rattle.algebra.specs.Order.{_≦_, _≺_, <ℤ→≤ℤ, +ℤ-mono, mul-nonneg, sub-nonneg, sq-nonneg, le-by-rest}
 use Rattle.algebra.specs.Lin.{le, le-from}
-use Rattle.exact.specs.Whole.{PointZ, EdgeZ, turnZ}
-use Rattle.exact.specs.Distance.{Stand, standOf, dotZ, lengthZ, numOf, denOf, numZ, denZ, Ratio, awayZ, Least}
-use Rattle.exact.specs.Distance.Stand.{before, beside, past}
-use Rattle.exact.proofs.Standing.{Stands, stands, reach, reach-ratio}
+use Rattle.grid.proofs.Standing.{Stands, stands, reach, reach-ratio}
+use Rattle.grid.specs.Distance.Stand.{before, beside, past}
+use Rattle.grid.specs.Distance.{Stand, standOf, dotZ, lengthZ, numOf, denOf, numZ, denZ, Ratio, awayZ, Least}
+use Rattle.grid.specs.Whole.{PointZ, EdgeZ, turnZ}
 
 module _ (f : EdgeZ) (q : PointZ) where
   abbrev dot : ℤ

@@ -14,8 +14,8 @@ use Rattle.algebra.specs.Lin.{le, lt, eq, le-from, lt-from, eq-from}
 use Rattle.algebra.specs.Mono.{mul-cancel}
 use Rattle.number.specs.Exact.{eqZ}
 use Rattle.number.proofs.Compare.{→eqZ, is-lt, not-lt}
-use Rattle.exact.specs.Whole.{PointZ, EdgeZ, turnZ, betweenZ, onEdgeZ}
-use Rattle.exact.proofs.Between.{product-between}
+use Rattle.grid.proofs.Between.{product-between}
+use Rattle.grid.specs.Whole.{PointZ, EdgeZ, turnZ, betweenZ, onEdgeZ}
 
 -- q lies between a and b, ends included, and those differ
 pub record Across (a b q : ℤ) : Type 0 where

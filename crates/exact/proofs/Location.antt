@@ -7,14 +7,14 @@ use lib.Dec.{T}
 use lib.Ieee.{unlike}
 use Rattle.boundary.specs.declared.Point.{Point}
 use Rattle.boundary.specs.declared.Edge.{Edge}
-use Rattle.boundary.specs.Folds.{fold, any, oddly}
+use Rattle.lists.specs.Lists.{fold, any, oddly, Every}
 use Rattle.geometry.specs.Polygon.{crossesOf, containsOf, onEdge, locateOf}
-use Rattle.exact.specs.Whole.{PointZ, EdgeZ, onEdgeZ, boundaryZ, crossesZ, insideZ, locationZ}
+use Rattle.grid.specs.Whole.{PointZ, EdgeZ, onEdgeZ, boundaryZ, crossesZ, insideZ, locationZ}
 use Rattle.exact.specs.Grid.{PointOn, EdgesOn}
-use Rattle.exact.specs.Grid.Each.{none, more}
-use Rattle.exact.specs.Distance.{Every}
+use Rattle.lists.specs.Lists.Each.{none, more}
 use Rattle.exact.specs.Distance.Every.{empty, also}
-use Rattle.exact.proofs.EachLaws.{any-each, every-fails}
+use Rattle.lists.proofs.FoldLaws.{every-fails}
+use Rattle.lists.proofs.MemberLaws.{any-each}
 use Rattle.exact.proofs.OneEdge.{on-edge-exact, crosses-exact}
 
 module _ {p : Point} {q : PointZ} (P : PointOn p q) where

@@ -9,7 +9,7 @@ use lib.ListN.{length}
 use lib.Ieee.{Float}
 use Rattle.boundary.specs.declared.Point.{Point}
 use Rattle.boundary.specs.declared.Edge.{Edge}
-use Rattle.boundary.specs.Folds.{run}
+use Rattle.lists.specs.Lists.{run}
 use Rattle.boundary.specs.Outline.{count, vertexAt, after, edgeAt, vertices, edges}
 
 pub length-run : {A : Type 0} (f : ℕ → A) (i n : ℕ) → length (run f i n) ≡ n

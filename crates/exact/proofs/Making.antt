@@ -20,7 +20,7 @@ use Rattle.number.proofs.Operations.{is-unique, zero-is}
 use Rattle.number.proofs.Compare.{lt-false, is-lt, not-lt, eq-false, lt-is, eq-is}
 use Rattle.boundary.specs.declared.Point.{Point}
 use Rattle.boundary.specs.declared.Edge.{Edge}
-use Rattle.boundary.specs.Folds.{any}
+use Rattle.lists.specs.Lists.{any, atFront, Each}
 use Rattle.boundary.specs.Outline.{count, vertexAt, vertices, edges}
 use Rattle.accept.specs.declared.Test.{Test}
 use Rattle.accept.specs.declared.Test.the-variants.{Passed, Failed}
@@ -29,12 +29,15 @@ use Rattle.accept.specs.Area.{areaOf}
 use Rattle.accept.specs.Refusals.{samePoint, negativeArea, shapeTested, signTested, outlineTested}
 use Rattle.accept.specs.Answers.{answerFor}
 use Rattle.geometry.specs.Making.{kept, keptCount, numbers, turned, makeTested, makeAnswer, madeList}
-use Rattle.accept.specs.Lists.{atFront, writtenFor}
-use Rattle.exact.specs.Whole.{PointZ, EdgeZ, edgeZ, crossZ, shoelaceZ}
-use Rattle.exact.specs.Grid.{PointOn, EdgeOn, Each, EdgesOn, OutlineOn}
+use Rattle.accept.specs.Lists.{writtenFor}
+use Rattle.grid.specs.Grid.{OutlineOn}
+use Rattle.grid.specs.Whole.{PointZ, EdgeZ, edgeZ, crossZ, shoelaceZ}
+use Rattle.exact.specs.Grid.{PointOn, EdgeOn, EdgesOn}
 use Rattle.exact.specs.OneOutline.{MadeOn}
-use Rattle.exact.proofs.EachLaws.{any-each, any-never, take-each, reverse-each}
-use Rattle.exact.proofs.Loop.{length-run, loop, edges-loop}
+use Rattle.lists.proofs.RunLaws.{length-run}
+use Rattle.lists.proofs.FoldLaws.{any-never}
+use Rattle.lists.proofs.MemberLaws.{any-each, take-each, reverse-each}
+use Rattle.exact.proofs.Loop.{loop, edges-loop}
 use Rattle.exact.proofs.Turned.{loop-turned}
 use Rattle.exact.proofs.Numbers.{length-numbers, vertices-numbers, numbers-vertices, numbers-on}
 use Rattle.exact.proofs.WholeEdges.{loop-on, vertices-on}

@@ -6,12 +6,13 @@ use native.Mathlib.Omega.{arith}
 use lib.ListN.{length}
 use lib.Ieee.{Float}
 use Rattle.boundary.specs.declared.Point.{Point}
-use Rattle.boundary.specs.Folds.{run}
+use Rattle.lists.specs.Lists.{run, Each}
 use Rattle.boundary.specs.Outline.{count, vertices}
 use Rattle.geometry.specs.Making.{numbers}
-use Rattle.exact.specs.Whole.{PointZ}
-use Rattle.exact.specs.Grid.{PointOn, Each, OutlineOn}
-use Rattle.exact.specs.Grid.Each.{none, more}
+use Rattle.grid.specs.Grid.{OutlineOn}
+use Rattle.grid.specs.Whole.{PointZ}
+use Rattle.exact.specs.Grid.{PointOn}
+use Rattle.lists.specs.Lists.Each.{none, more}
 use Rattle.exact.proofs.Loop.{vertices-more}
 
 pub length-numbers : (ps : List Point) → length (numbers ps) ≡ 2 * length ps

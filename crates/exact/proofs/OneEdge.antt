@@ -22,10 +22,12 @@ use Rattle.number.proofs.Compare.{lt-is, eq-is}
 use Rattle.boundary.specs.declared.Point.{Point}
 use Rattle.boundary.specs.declared.Edge.{Edge}
 use Rattle.geometry.specs.Polygon.{crossesOf, turnOf, onEdge}
-use Rattle.exact.specs.Whole.{PointZ, EdgeZ, turnZ, onEdgeZ, crossesZ}
-use Rattle.exact.specs.Grid.{OnGrid, PointOn, EdgeOn}
-use Rattle.exact.proofs.Between.{between-is, product-nearer}
-use Rattle.exact.proofs.Line.{Across, across, on-line}
+use Rattle.grid.specs.Grid.{OnGrid}
+use Rattle.grid.specs.Whole.{PointZ, EdgeZ, turnZ, onEdgeZ, crossesZ}
+use Rattle.exact.specs.Grid.{PointOn, EdgeOn}
+use Rattle.grid.proofs.Between.{product-nearer}
+use Rattle.exact.proofs.Between.{between-is}
+use Rattle.grid.proofs.Line.{Across, across, on-line}
 use Rattle.exact.proofs.Crossing.{lt-scaled, lt-beside, cleared, at-crossing, rounded-in, crossing-near}
 
 pub difference : {x y : Float} {z w : ℤ} → OnGrid x z → OnGrid y w → Sized 10 (2 ^ 21) (sub binary64 x y) (z -ℤ w)

@@ -15,12 +15,12 @@ use Rattle.geometry.specs.Polygon.{containsOf}
 use Rattle.accept.specs.Refusals.{outlineTested, pointTested}
 use Rattle.accept.specs.Answers.{answerFor}
 use Rattle.geometry.specs.Answers.{areaAnswer, locateAnswer, distanceAnswer}
-use Rattle.exact.specs.Grid.{OutlineOn}
+use Rattle.grid.specs.Grid.{OutlineOn}
 use Rattle.exact.specs.OneOutline.{GridExact}
 use Rattle.exact.proofs.Area.{area-exact}
 use Rattle.exact.proofs.Location.{location-exact}
 use Rattle.exact.proofs.Distance.{distance-near}
-use Rattle.exact.proofs.Loop.{length-run}
+use Rattle.lists.proofs.RunLaws.{length-run}
 use Rattle.exact.proofs.WholeEdges.{edges-on}
 use Rattle.accept.proofs.TestLaws.{shape, accepted}
 use Rattle.exact.proofs.Tests.{grid-in-field}

@@ -11,16 +11,15 @@ use Rattle.algebra.specs.Quote.{quote}
 use Rattle.algebra.specs.Order.{_≦_, _≺_, Within, ≤ℤ-trans, ≤ℤ-of-eq, <ℤ→≤ℤ, mul-pos, nonneg-nat}
 use Rattle.algebra.specs.Lin.{le, lt, le-from}
 use Rattle.algebra.specs.Mono.{mul-mono}
-use Rattle.number.specs.Exact.{Is, zeroᶠ}
+use Rattle.number.specs.Exact.{Is, zeroᶠ, one}
 use Rattle.number.specs.Rounding.{Result}
 use Rattle.signs.specs.Signs.{clampOf}
 use Rattle.number.proofs.Operations.{equation→is, zero-is}
 use Rattle.number.proofs.RoundingLaws.{rounded-within, rounded-relative, rounded-nonneg, rounded-nonpos}
 use Rattle.number.proofs.Compare.{lt-is, is-lt, not-lt}
-use Rattle.boundary.specs.Line.{one}
-use Rattle.exact.specs.Distance.{Stand}
-use Rattle.exact.specs.Distance.Stand.{before, beside, past}
-use Rattle.exact.proofs.Standing.{Stands, reach}
+use Rattle.grid.proofs.Standing.{Stands, reach}
+use Rattle.grid.specs.Distance.Stand.{before, beside, past}
+use Rattle.grid.specs.Distance.{Stand}
 use Rattle.exact.proofs.Chain as C
 
 -- 1, and 2 ^ -52, in units of 2 ^ -1074

@@ -5,8 +5,8 @@ use lib.IntN.{ℤ, pos}
 use lib.Signed.{ltZ}
 use Rattle.algebra.specs.Order.{_≦_, _≺_, ≤ℤ-of-eq, <ℤ→≤ℤ}
 use Rattle.number.proofs.Compare.{is-lt, not-lt}
-use Rattle.exact.specs.Distance.{Stand, Ratio}
-use Rattle.exact.specs.Distance.Stand.{before, beside, past}
+use Rattle.grid.specs.Distance.Stand.{before, beside, past}
+use Rattle.grid.specs.Distance.{Stand, Ratio}
 
 -- what each says of the dot product and the squared length
 abbrev pub Stands : ℤ → ℤ → Stand → Type 0

@@ -12,7 +12,7 @@ use Rattle.number.specs.Exact.{Is}
 use Rattle.number.proofs.Operations.{equation→is, neg-is}
 use Rattle.number.proofs.Compare.{le-true, le-is}
 use Rattle.boundary.specs.Boxes.{limit, inField}
-use Rattle.exact.specs.Grid.{OnGrid}
+use Rattle.grid.specs.Grid.{OnGrid}
 
 -- it is finite
 pub grid-finite : {x : Float} {z : ℤ} → OnGrid x z → finite x ≡ true

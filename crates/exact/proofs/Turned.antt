@@ -1,8 +1,8 @@
 -- A loop walked backwards: what is summed up over its edges, in any order, is summed up over the same edges with their ends exchanged. Assumes nothing.
 use mathlib.Core.Path.{_≡_, refl, ap, _∙_}
 use mathlib.Core.List.{List, [], _∷_, _++_, reverse, reverse-cons}
-use Rattle.boundary.specs.Folds.{fold}
-use Rattle.boundary.proofs.FoldLaws.{fold-last}
+use Rattle.lists.proofs.FoldLaws.{fold-last}
+use Rattle.lists.specs.Lists.{fold}
 use Rattle.exact.proofs.Loop.{path, loop}
 
 -- `free`: the order of two members does not matter. `turn`: an edge from b to a counts for `h` of what the edge from a to b counts for

@@ -4,11 +4,12 @@ use mathlib.Core.List.{List, [], _∷_}
 use lib.IntN.{ℤ}
 use lib.Ieee.{Float}
 use Rattle.boundary.specs.declared.Point.{Point}
-use Rattle.boundary.specs.Folds.{run}
+use Rattle.lists.specs.Lists.{run, Each}
 use Rattle.boundary.specs.Outline.{vertices, edges}
-use Rattle.exact.specs.Whole.{PointZ, EdgeZ, edgeZ}
-use Rattle.exact.specs.Grid.{OnGrid, PointOn, Each, EdgesOn, OutlineOn}
-use Rattle.exact.specs.Grid.Each.{none, more}
+use Rattle.grid.specs.Grid.{OnGrid, OutlineOn}
+use Rattle.grid.specs.Whole.{PointZ, EdgeZ, edgeZ}
+use Rattle.exact.specs.Grid.{PointOn, EdgesOn}
+use Rattle.lists.specs.Lists.Each.{none, more}
 use Rattle.exact.proofs.Loop.{path, loop, edge, edges-loop, vertices-more}
 
 path-on : {p r : Point} {q s : PointZ} {ps : List Point} {qs : List PointZ} → PointOn p q → Each PointOn ps qs → PointOn r s → EdgesOn (path edge p ps r) (path edgeZ q qs s)

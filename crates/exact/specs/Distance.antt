@@ -8,7 +8,7 @@ use lib.Signed.{ltZ}
 use lib.Ieee.{Float}
 use Rattle.algebra.specs.Order.{_≦_, _≺_, absℤ}
 use Rattle.number.specs.Exact.{Is}
-use Rattle.exact.specs.Whole.{PointZ, EdgeZ, turnZ, locationZ}
+use Rattle.grid.specs.Whole.{PointZ, EdgeZ, turnZ, locationZ}
 
 -- ---- one edge
 abbrev pub squaresZ : ℤ → ℤ → ℤ

@@ -4,9 +4,9 @@ use mathlib.Core.Bool.{true, false}
 use mathlib.Core.List.{List, [], _∷_}
 use Prim.Native.Nat.{ℕ, _*_, _^_}
 use lib.IntN.{pos}
-use Rattle.boundary.specs.Folds.{fold, any, oddly}
-use Rattle.exact.specs.Whole.{PointZ, EdgeZ, edgeZ, crossZ, shoelaceZ, turnZ, betweenZ, onEdgeZ, boundaryZ, crossesZ, insideZ, locationZ}
-use Rattle.exact.specs.Distance.{numZ, denZ}
+use Rattle.lists.specs.Lists.{fold, any, oddly}
+use Rattle.grid.specs.Distance.{numZ, denZ}
+use Rattle.grid.specs.Whole.{PointZ, EdgeZ, edgeZ, crossZ, shoelaceZ, turnZ, betweenZ, onEdgeZ, boundaryZ, crossesZ, insideZ, locationZ}
 
 -- (x, y) µm
 abbrev point : ℕ → ℕ → PointZ

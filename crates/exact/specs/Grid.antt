@@ -6,7 +6,7 @@ use lib.Ieee.{Float}
 use Rattle.number.specs.Exact.{Sized}
 use Rattle.boundary.specs.declared.Point.{Point}
 use Rattle.boundary.specs.declared.Edge.{Edge}
-use Rattle.exact.specs.Whole.{PointZ, EdgeZ}
+use Rattle.grid.specs.Whole.{PointZ, EdgeZ}
 
 -- x is exactly z steps, z / 2 ^ 10, and z is at most 2 ^ 20 either way
 abbrev pub OnGrid : Float → ℤ → Type 0

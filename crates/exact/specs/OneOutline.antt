@@ -16,8 +16,9 @@ use Rattle.geometry.specs.Polygon.{locateOf}
 use Rattle.accept.specs.Refusals.{outlineTested}
 use Rattle.geometry.specs.Answers.{areaAnswer, locateAnswer, distanceAnswer}
 use Rattle.geometry.specs.Making.{kept}
-use Rattle.exact.specs.Whole.{PointZ, EdgeZ, shoelaceZ, locationZ}
-use Rattle.exact.specs.Grid.{PointOn, EdgesOn, OutlineOn}
+use Rattle.grid.specs.Grid.{OutlineOn}
+use Rattle.grid.specs.Whole.{PointZ, EdgeZ, shoelaceZ, locationZ}
+use Rattle.exact.specs.Grid.{PointOn, EdgesOn}
 use Rattle.exact.specs.Distance.{SignedNear}
 
 -- what the distance query answers of v at p, and that it is near the exact distance of q from the edges fs

@@ -6,7 +6,7 @@ use lib.IntN.{ℤ, pos, _+ℤ_, _-ℤ_, _*ℤ_}
 use lib.Signed.{ltZ, leZ}
 use lib.Ieee.{unlike}
 use Rattle.number.specs.Exact.{eqZ}
-use Rattle.boundary.specs.Folds.{fold, any, oddly}
+use Rattle.lists.specs.Lists.{fold, any, oddly}
 
 pub record PointZ : Type 0 where
   pub x : ℤ

@@ -13,7 +13,7 @@ use Rattle.boundary.specs.declared.Bounds.{Bounds}
 use Rattle.boundary.specs.declared.Near.{Near}
 use Rattle.boundary.specs.declared.Distance.{Distance}
 use Rattle.boundary.specs.Boxes.{boxFits, hull, scaleOf, widenedOf}
-use Rattle.boundary.specs.Folds.{run, fold, any, oddly, total}
+use Rattle.lists.specs.Lists.{run, fold, any, oddly, total}
 use Rattle.boundary.specs.Outline.{vertices, edges}
 use Rattle.boundary.specs.Length.{edgeLength, lengthOf}
 use Rattle.boundary.specs.Line.{paramOf, alongOf, footOf, normalOf, lineNear}

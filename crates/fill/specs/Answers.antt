@@ -15,7 +15,8 @@ use Rattle.accept.specs.declared.Refusal.the-variants.{LongList}
 use Rattle.accept.specs.declared.Test.{Test}
 use Rattle.accept.specs.Refusals.{outlineTested, cellTested, roomTested}
 use Rattle.accept.specs.Answers.{answerFor}
-use Rattle.accept.specs.Lists.{zeros, writtenFor}
+use Rattle.lists.specs.Lists.{zeros}
+use Rattle.accept.specs.Lists.{writtenFor}
 use Rattle.fill.specs.Fill.{fillOf, longOf}
 
 -- the pieces of a half, of four numbers each: the most that fit twice into a buffer of `room` numbers

@@ -6,7 +6,7 @@ use lib.Dec.{ltb}
 use lib.ListN.{length}
 use lib.Ieee.{Float, binary64, add, sub, mul, div}
 use Rattle.boundary.specs.declared.Edge.{Edge}
-use Rattle.boundary.specs.Folds.{total}
+use Rattle.lists.specs.Lists.{total}
 use Rattle.clip.specs.declared.Side.{Side}
 use Rattle.clip.specs.Clip.{clipOf}
 use Rattle.boundary.specs.declared.Bounds.{Bounds}

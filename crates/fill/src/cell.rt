@@ -6,13 +6,12 @@ ghost use Prim.Native.Nat.{_+_, _*_, _≤_};
 ghost use lib.ListN.{length, drop};
 ghost use Rattle.number.specs.Exact.{zeroᶠ};
 ghost use Rattle.boundary.specs.declared.Edge.{Edge};
-ghost use Rattle.boundary.specs.Folds.{total};
+ghost use Rattle.lists.specs.Lists.{total, atFront, zeros};
 ghost use Rattle.boundary.specs.Outline.{count, edges};
 ghost use Rattle.accept.specs.declared.Answer.the-variants.{Refused, Measure};
 ghost use Rattle.accept.specs.declared.Refusal.the-variants.{LongList};
 ghost use Rattle.clip.specs.Lent.{linesFrom, Beside, Holds, Stage};
 ghost use Rattle.fill.specs.Fill.{xdyOf, clip4, longOf};
-ghost use Rattle.accept.specs.Lists.{atFront, zeros};
 ghost use Rattle.fill.specs.Answers.{halfOf, filled};
 use accept::Answer;
 use accept::Refusal;
@@ -109,6 +108,6 @@ pub fn fill_in(v: &[f64], c: Bounds, w: &mut [f64]) -> Answer
     write_edges(v, w);
     let last = four(w, half, v.len() / 2, c);
     let answer = summed(w, half, last);
-    accept::lists::clear_numbers(w, 8 * half);
+    lists::clear_numbers(w, 8 * half);
     answer
 }

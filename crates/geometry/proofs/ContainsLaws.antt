@@ -9,10 +9,10 @@ use borrow.Author.Tests.{eq-eqb, ne-eqb}
 use lib.Ieee.{Float, unlike}
 use Rattle.boundary.specs.declared.Point.{Point}
 use Rattle.boundary.specs.declared.Edge.{Edge}
-use Rattle.boundary.specs.Folds.{run, fold, oddly}
+use Rattle.lists.specs.Lists.{run, fold, oddly}
 use Rattle.boundary.specs.Outline.{count, after, vertexAt, edges}
-use Rattle.boundary.proofs.FoldLaws.{fold-last}
-use Rattle.boundary.proofs.RunLaws.{run-last, run-later}
+use Rattle.lists.proofs.RunLaws.{run-last, run-later}
+use Rattle.lists.proofs.FoldLaws.{fold-last}
 use Rattle.geometry.specs.Polygon.{crossesOf, containsOf, before, containsRust}
 
 unlike-free : (a b c : Bool) → unlike (unlike a b) c ≡ unlike (unlike a c) b

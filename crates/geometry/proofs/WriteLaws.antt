@@ -9,11 +9,10 @@ use lib.ListN.{length, drop, set, length-append}
 use lib.Seq.{drop-cons, set-at}
 use lib.Ieee.{Float, nan}
 use Rattle.boundary.specs.declared.Point.{Point}
-use Rattle.boundary.specs.Folds.{run}
+use Rattle.lists.specs.Lists.{run, atFront}
 use Rattle.boundary.specs.Outline.{count, vertexAt, vertices}
-use Rattle.boundary.proofs.RunLaws.{run-last, reverse-run}
+use Rattle.lists.proofs.RunLaws.{run-last, reverse-run}
 use Rattle.geometry.specs.Making.{turned, numbers}
-use Rattle.accept.specs.Lists.{atFront}
 
 numbers-append : (ps qs : List Point) → numbers (ps ++ qs) ≡ numbers ps ++ numbers qs
 unfolding numbers

@@ -9,7 +9,7 @@ use Rattle.boundary.specs.declared.Point.{Point}
 use Rattle.boundary.specs.declared.Edge.{Edge}
 use Rattle.boundary.specs.declared.Bounds.{Bounds}
 use Rattle.boundary.specs.Boxes.{lesser, greater, hull, nowhere, stretched}
-use Rattle.boundary.specs.Folds.{run, fold, any, oddly}
+use Rattle.lists.specs.Lists.{run, fold, any, oddly}
 use Rattle.boundary.specs.Outline.{count, vertexAt}
 
 -- ---- containment: an edge counts when exactly one end has y above the point and the point's x is strictly below the crossing

@@ -15,7 +15,7 @@ use Rattle.boundary.specs.declared.Point.{Point}
 use Rattle.boundary.specs.declared.Bounds.{Bounds}
 use Rattle.boundary.specs.Boxes.{PointOf, FiniteBox, Around, nowhere, spot}
 use Rattle.boundary.proofs.AroundLaws.{Number, NumberBox, around-nowhere, nowhere-number}
-use Rattle.sorts.specs.Sort.{In}
+use Rattle.lists.specs.Lists.{In}
 use Rattle.splits.specs.Tree.{hullOf, spreadOf, alongY}
 use Rattle.index.specs.Rust.{hullAs, spreadAs, alongYAs, SameBox}
 use Rattle.index.proofs.HullLaws.{folded, fold-within, hull-of-number, hull-of-around, hull-of-within, list-finite, hull-of-finite}

@@ -11,16 +11,15 @@ use lib.Seq.{length-take-le, take-at, drop-at, drop-append-add, drop-drop, sets}
 use lib.Ieee.{Float}
 use borrow.Author.Tests.{le-leb, ltb-false, eqb-true}
 use Rattle.boundary.specs.declared.Bounds.{Bounds}
-use Rattle.sorts.specs.Sort.{sort, Each, Sorted}
+use Rattle.lists.specs.Lists.{Every, run, any, atFront, zeros}
+use Rattle.sorts.specs.Sort.{sort, Sorted}
 use Rattle.sorts.proofs.PartLaws.{sort-sorted}
-use Rattle.boundary.specs.Folds.{run, any}
 use Rattle.accept.specs.declared.Refusal.the-variants.{TooMany, BadBox, ShortBuffer}
 use Rattle.accept.specs.declared.Refusal.{Refusal}
 use Rattle.accept.specs.declared.Test.{Test}
 use Rattle.accept.specs.declared.Test.the-variants.{Passed, Failed}
 use Rattle.number.specs.Exact.{zeroᶠ}
 use Rattle.accept.specs.Answers.{Outcome}
-use Rattle.accept.specs.Lists.{atFront, zeros}
 use Rattle.accept.specs.Refusals.{_refusing_when_}
 use Rattle.accept.proofs.TestLaws.{refusing-passed}
 use Rattle.entries.specs.Entries.{boxCount, boxNumbers, boxesOf, wideAt, centreOf}
@@ -32,7 +31,8 @@ use Rattle.index.specs.Answers.{boxesTested, buildTested, buildOutcome, 
 use Rattle.index.specs.declared.BuildFields.{BuildFields}
 use Rattle.index.specs.declared.Built.{Built}
 use Rattle.index.specs.declared.Built.the-variants.{Refused, Sized}
-use Rattle.entries.proofs.StoreLaws.{length-run, sets-front, flat-length}
+use Rattle.lists.proofs.StoreLaws.{sets-front, flat-length}
+use Rattle.lists.proofs.RunLaws.{length-run}
 use Rattle.entries.proofs.EntryLaws.{wide-held, centres-held}
 use Rattle.nodes.proofs.TreeLaws.{tree-leaf, length-items, nodes-suffice}
 use Rattle.nodes.proofs.LayoutLaws.{length-below, placed-front}
@@ -50,11 +50,11 @@ front-front zs xs s h l =
 
 -- numbers from j on ascend
 pub run-ascends : (j k : ℕ) → Sorted leb (run (λ i. i) j k)
-unfolding Sorted Each run
+unfolding Sorted Every run
 run-ascends j zero = tt
 run-ascends j (suc k) = (above (suc j) k (omega arith), run-ascends (suc j) k)
   where
-    above : (i k : ℕ) → j ≤ i → Each (λ y. leb j y ≡ true) (run (λ i. i) i k)
+    above : (i k : ℕ) → j ≤ i → Every (λ y. leb j y ≡ true) (run (λ i. i) i k)
     above i zero h = tt
     above i (suc k) h = (le-leb j i h, above (suc i) k (omega arith))
 

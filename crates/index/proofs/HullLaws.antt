@@ -14,13 +14,12 @@ use Rattle.signs.specs.Signs.{absOf, maxOf}
 use Rattle.number.proofs.OrderLaws.{finite-between, max-one-of}
 use Rattle.number.proofs.Values.{add-not-nan, sub-not-nan, mul-not-nan, abs-finite}
 use Rattle.boundary.specs.declared.Bounds.{Bounds}
-use Rattle.number.specs.Exact.{Held}
+use Rattle.number.specs.Exact.{Held, one}
 use Rattle.boundary.specs.Boxes.{FiniteBox, Around, limit, inField, boxFits, hull, nowhere, nano, scaleOf, widenedOf}
-use Rattle.boundary.specs.Folds.{fold}
-use Rattle.boundary.specs.Line.{one}
-use Rattle.boundary.proofs.AlongLaws.{one-of}
+use Rattle.number.proofs.Basics.{one-of}
+use Rattle.lists.specs.Lists.{fold, times, In}
 use Rattle.boundary.proofs.AroundLaws.{Number, NumberBox, around-self, around-through, hull-number, hull-around, hull-within, around-nowhere, nowhere-number}
-use Rattle.sorts.specs.Sort.{sort, times, In}
+use Rattle.sorts.specs.Sort.{sort}
 use Rattle.sorts.proofs.SortLaws.{length-sort, times-sort}
 use Rattle.splits.specs.Tree.{hullOf}
 

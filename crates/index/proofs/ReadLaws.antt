@@ -10,15 +10,15 @@ use lib.Seq.{getD-append-add, ext-getD}
 use lib.Ieee.{Float, nan}
 use Rattle.boundary.specs.declared.Point.{Point}
 use Rattle.boundary.specs.declared.Bounds.{Bounds}
-use Rattle.boundary.specs.Folds.{run}
-use Rattle.accept.specs.Lists.{atFront}
+use Rattle.lists.specs.Lists.{run, atFront}
 use Rattle.sorts.proofs.SortLaws.{length-sort}
 use Rattle.nodes.specs.declared.Node.{Node}
 use Rattle.entries.specs.Entries.{boxAt}
 use Rattle.splits.specs.Tree.{Tree, leaf, inner, hullOf, treeOf, itemsOf}
 use Rattle.nodes.specs.Layout.{extra, nodeOf, below, nodesOf, cornersOf, linksOf, itemAt, firstAt, countAt}
 use Rattle.index.specs.Buffer.{IndexBuffer, buffer, holding, Stands, levels, Filled}
-use Rattle.entries.proofs.StoreLaws.{length-run, run-at, flat-at}
+use Rattle.lists.proofs.StoreLaws.{flat-at}
+use Rattle.lists.proofs.RunLaws.{length-run, run-at}
 use Rattle.nodes.proofs.TreeLaws.{left, right, length-left, length-right, tree-induct}
 use Rattle.nodes.proofs.LayoutLaws.{length-below}
 

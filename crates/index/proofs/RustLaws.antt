@@ -19,15 +19,16 @@ use Rattle.number.proofs.Values.{add-grown, sub-grown}
 use Rattle.boundary.specs.declared.Point.{Point}
 use Rattle.boundary.specs.declared.Bounds.{Bounds}
 use Rattle.boundary.specs.Boxes.{inField, boxFits, PointOf, FieldValue, FieldBox, widenedOf}
-use Rattle.boundary.specs.Folds.{run}
+use Rattle.lists.specs.Lists.{run, times, In}
 use Rattle.boundary.specs.Line.{half, middle}
 use Rattle.boundary.proofs.AroundLaws.{NumberBox}
 use Rattle.boundary.proofs.FieldLaws.{field-is}
 use Rattle.boundary.proofs.BoxLaws.{widening-field}
 use Rattle.accept.specs.declared.Test.the-variants.{Passed}
-use Rattle.sorts.specs.Sort.{sort, times, In, Selected}
+use Rattle.sorts.specs.Sort.{sort, Selected}
 use Rattle.sorts.specs.Keys.{goes}
-use Rattle.sorts.proofs.SortLaws.{length-sort, times-append}
+use Rattle.lists.proofs.MemberLaws.{times-append}
+use Rattle.sorts.proofs.SortLaws.{length-sort}
 use Rattle.sorts.proofs.SelectLaws.{selected-first, selected-rest, sort-selected}
 use Rattle.entries.specs.Entries.{boxCount, boxAt, wideAt, centreOf}
 use Rattle.splits.specs.Tree.{Tree, leaf, inner, alongY, along, ordered, treeOf, indexOf}

@@ -11,9 +11,10 @@ use borrow.Author.Tests.{ne-eqb, eqb-true, eqb-false, ltb-true, ltb-false}
 use Rattle.boundary.specs.declared.Point.{Point}
 use Rattle.boundary.specs.declared.Bounds.{Bounds}
 use Rattle.boundary.specs.Boxes.{Around}
-use Rattle.boundary.specs.Folds.{run, fold, any}
-use Rattle.sorts.specs.Sort.{sort, times, In}
-use Rattle.sorts.proofs.SortLaws.{times-sort, times-append}
+use Rattle.lists.specs.Lists.{run, fold, any, times, In}
+use Rattle.sorts.specs.Sort.{sort}
+use Rattle.lists.proofs.MemberLaws.{times-append}
+use Rattle.sorts.proofs.SortLaws.{times-sort}
 use Rattle.accept.specs.declared.Test.the-variants.{Passed}
 use Rattle.entries.specs.Entries.{boxCount, boxAt, boxesOf, wideAt, centreOf}
 use Rattle.splits.specs.Tree.{Tree, leaf, inner, hullOf, treeOf, indexOf, itemsOf, EachNode}
@@ -22,10 +23,11 @@ use Rattle.boundary.specs.Boxes.{boxFits}
 use Rattle.index.specs.Answers.{boxesTested}
 use Rattle.nodes.proofs.TreeLaws.{left, right, times-halves, tree-induct}
 use Rattle.nodes.proofs.LayoutLaws.{length-below}
-use Rattle.entries.proofs.StoreLaws.{length-run}
+use Rattle.lists.proofs.RunLaws.{length-run}
 use Rattle.index.specs.Buffer.{IndexBuffer, holding, Stands, levels, Filled}
 use Rattle.index.proofs.ReadLaws.{holding-stands, tree-levels, tree-filled, Deep, deep-of}
-use Rattle.index.proofs.GrowLaws.{or-none, boxes-passed, boxes-fit, index-nodes}
+use Rattle.lists.proofs.FoldLaws.{or-none}
+use Rattle.index.proofs.GrowLaws.{boxes-passed, boxes-fit, index-nodes}
 use Rattle.boundary.proofs.AroundLaws.{NumberBox}
 use Rattle.index.proofs.HullLaws.{fits-wide, hull-of-number, hull-of-around, hull-of-within}
 

@@ -8,13 +8,12 @@ use lib.ListN.{length}
 use lib.Ieee.{Float}
 use Rattle.number.specs.Exact.{zeroᶠ}
 use Rattle.boundary.specs.Boxes.{boxFits}
-use Rattle.boundary.specs.Folds.{any}
+use Rattle.lists.specs.Lists.{any, atFront, zeros}
 use Rattle.accept.specs.declared.Refusal.{Refusal}
 use Rattle.accept.specs.declared.Refusal.the-variants.{TooMany, BadBox, ShortBuffer}
 use Rattle.accept.specs.declared.Test.{Test}
 use Rattle.accept.specs.declared.Test.the-variants.{Passed}
 use Rattle.accept.specs.Answers.{Outcome}
-use Rattle.accept.specs.Lists.{atFront, zeros}
 use Rattle.accept.specs.Refusals.{number, given, _refusing_when_}
 use Rattle.index.specs.declared.Built.{Built}
 use Rattle.index.specs.declared.Built.the-variants.{Refused, Sized}

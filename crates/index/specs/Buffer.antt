@@ -8,9 +8,8 @@ use lib.ListN.{length}
 use lib.Ieee.{Float}
 use Rattle.number.specs.Exact.{zeroᶠ}
 use Rattle.boundary.specs.declared.Bounds.{Bounds}
-use Rattle.boundary.specs.Folds.{run}
+use Rattle.lists.specs.Lists.{run, atFront, zeros}
 use Rattle.accept.specs.Answers.{Outcome}
-use Rattle.accept.specs.Lists.{atFront, zeros}
 use Rattle.entries.specs.Entries.{boxAt}
 use Rattle.splits.specs.Tree.{Tree, leaf, inner, itemsOf}
 use Rattle.nodes.specs.Layout.{nodesOf, cornersOf, linksOf, itemAt, firstAt, countAt}

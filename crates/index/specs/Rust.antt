@@ -8,7 +8,7 @@ use lib.Ieee.{binary64, sub, lt, eq}
 use Rattle.boundary.specs.declared.Point.{Point}
 use Rattle.boundary.specs.declared.Bounds.{Bounds}
 use Rattle.boundary.specs.Boxes.{hull, nowhere, stretched}
-use Rattle.boundary.specs.Folds.{fold}
+use Rattle.lists.specs.Lists.{fold}
 use Rattle.sorts.specs.Keys.{goes}
 use Rattle.sorts.specs.Sort.{sort, Selected}
 use Rattle.splits.specs.Tree.{Tree, leaf, inner, along}

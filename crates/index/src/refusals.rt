@@ -2,7 +2,7 @@
 ghost use mathlib.Core.Path.{_≡_};
 ghost use mathlib.Core.Bool.{not};
 ghost use Prim.Native.Nat.{_≤_};
-ghost use Rattle.boundary.specs.Folds.{any};
+ghost use Rattle.lists.specs.Lists.{any};
 ghost use Rattle.entries.specs.Entries.{boxCount, boxesOf};
 ghost use Rattle.boundary.specs.Boxes.{boxFits};
 ghost use Rattle.accept.specs.declared.Refusal.the-variants.{ShortBuffer};

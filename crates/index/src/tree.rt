@@ -2,12 +2,11 @@
 ghost use mathlib.Core.Path.{_≡_};
 ghost use Prim.Native.Nat.{_≤_};
 ghost use lib.ListN.{length};
-ghost use Rattle.boundary.specs.Folds.{run};
+ghost use Rattle.lists.specs.Lists.{run};
 ghost use Rattle.entries.specs.Entries.{boxCount, wideAt};
 ghost use Rattle.splits.specs.Tree.{hullOf, indexOf};
 ghost use Rattle.index.specs.Answers.{Accepted, Workspace};
 ghost use Rattle.index.specs.Buffer.{buffer, grown, cleared};
-use accept::lists;
 use boundary::Bounds;
 use boundary::boxes;
 

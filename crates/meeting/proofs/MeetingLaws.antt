@@ -15,7 +15,7 @@ use Rattle.boundary.specs.Boxes.{Around}
 use Rattle.boundary.specs.Boxes.{boxFits}
 use Rattle.accept.specs.Answers.{Outcome, numberOf, toldOf}
 use Rattle.accept.specs.declared.Answer.{Answer}
-use Rattle.accept.specs.Lists.{atFront}
+use Rattle.lists.specs.Lists.{atFront}
 use Rattle.accept.specs.Refusals.{_refusing_when_}
 use Rattle.accept.specs.declared.Answer.the-variants.{Refused, Told}
 use Rattle.accept.specs.declared.Refusal.{Refusal}
@@ -27,7 +27,7 @@ use Rattle.splits.specs.Tree.{Tree, leaf, inner, indexOf, itemsOf}
 use Rattle.nodes.specs.Layout.{firstAt, countAt}
 use Rattle.index.specs.Buffer.{IndexBuffer, buffer, shortBuffer, holding, grown, cleared, Stands, levels}
 use Rattle.index.specs.Answers.{boxesTested, Accepted}
-use Rattle.entries.proofs.StoreLaws.{sets-front}
+use Rattle.lists.proofs.StoreLaws.{sets-front}
 use Rattle.index.proofs.GrowLaws.{length-index-items, accepted-of, grown-lent, holding-cleared, cleared-record}
 use Rattle.index.proofs.Theorems.{rootBox, Nested, nested, index-stands}
 use Rattle.meeting.specs.Meeting.{apart, meetingOf, visitedOf}

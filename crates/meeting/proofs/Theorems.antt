@@ -9,8 +9,8 @@ use lib.Ieee.{Float}
 use Rattle.boundary.specs.declared.Bounds.{Bounds}
 use Rattle.boundary.specs.Boxes.{Around, FieldBox}
 use Rattle.boundary.proofs.BoxLaws.{widened-around}
-use Rattle.sorts.specs.Sort.{times, In}
-use Rattle.sorts.proofs.SortLaws.{times-append}
+use Rattle.lists.proofs.MemberLaws.{times-append}
+use Rattle.lists.specs.Lists.{times, In}
 use Rattle.accept.specs.declared.Test.the-variants.{Passed}
 use Rattle.entries.specs.Entries.{boxCount, boxAt, wideAt}
 use Rattle.splits.specs.Tree.{Tree, leaf, inner, indexOf, itemsOf, EachNode}

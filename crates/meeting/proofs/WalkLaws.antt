@@ -11,12 +11,12 @@ use lib.ListN.{length, set, length-set, length-append}
 use lib.Seq.{sets, length-sets, set-out}
 use borrow.Author.Tests.{lt-ltb, le-ltb}
 use Rattle.boundary.specs.declared.Bounds.{Bounds}
-use Rattle.boundary.specs.Folds.{run}
-use Rattle.boundary.proofs.RunLaws.{run-last}
+use Rattle.lists.proofs.RunLaws.{run-last}
+use Rattle.lists.specs.Lists.{run}
 use Rattle.accept.specs.Answers.{Outcome}
 use Rattle.nodes.specs.Layout.{itemAt, firstAt, countAt}
 use Rattle.index.specs.Buffer.{IndexBuffer, nodeBox, leafItems}
-use Rattle.entries.proofs.StoreLaws.{sets-append}
+use Rattle.lists.proofs.StoreLaws.{sets-append}
 use Rattle.meeting.specs.Meeting.{apart}
 use Rattle.meeting.specs.Walk.{hits, putFrom}
 

@@ -13,7 +13,7 @@ use Rattle.accept.specs.declared.Answer.the-variants.{Refused, Told}
 use Rattle.accept.specs.declared.Refusal.the-variants.{BadBox, ShortBuffer}
 use Rattle.accept.specs.declared.Test.{Test}
 use Rattle.accept.specs.Answers.{Outcome, numberOf, toldOf}
-use Rattle.accept.specs.Lists.{atFront}
+use Rattle.lists.specs.Lists.{atFront}
 use Rattle.accept.specs.Refusals.{given, _refusing_when_}
 use Rattle.splits.specs.Tree.{indexOf}
 use Rattle.index.specs.Buffer.{IndexBuffer, shortBuffer, cleared}

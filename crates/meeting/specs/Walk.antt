@@ -6,7 +6,7 @@ use lib.Dec.{eqb, ltb}
 use lib.ListN.{length}
 use lib.Seq.{sets}
 use Rattle.boundary.specs.declared.Bounds.{Bounds}
-use Rattle.boundary.specs.Folds.{run}
+use Rattle.lists.specs.Lists.{run}
 use Rattle.accept.specs.Answers.{Outcome}
 use Rattle.entries.specs.Entries.{boxAt}
 use Rattle.nodes.specs.Layout.{firstAt, countAt}

@@ -6,7 +6,7 @@ ghost use Prim.Native.Nat.{_+_, _≤_, _<_, _^_};
 ghost use lib.Dec.{ltb};
 ghost use lib.ListN.{length};
 ghost use Rattle.boundary.specs.Boxes.{boxFits};
-ghost use Rattle.boundary.specs.Folds.{run};
+ghost use Rattle.lists.specs.Lists.{run};
 ghost use Rattle.accept.specs.declared.Refusal.the-variants.{BadBox, ShortBuffer};
 ghost use Rattle.accept.specs.declared.Test.the-variants.{Passed};
 ghost use Rattle.accept.specs.Refusals.{_refusing_when_};
@@ -32,7 +32,7 @@ fn push(list: &mut [u32], k: usize, x: u32) -> usize
     requires { ⌜ k ≤ length (now list) ⌝ }
     ensures { λ r. ⌜ record { answer = r; lent = now (list .exit) } ≡ putFrom (now (list .entry)) k (x ∷ []) ⌝ }
 {
-    sorts::put(list, k, x);
+    lists::put(list, k, x);
     if k < list.len() { k + 1 } else { k }
 }
 
@@ -44,7 +44,7 @@ fn copy(items: &[u32], first: usize, count: usize, list: &mut [u32], k: usize) -
     let mut i = 0;
     let mut j = k;
     while i < count {
-        j = push(list, j, sorts::at(items, first + i));
+        j = push(list, j, lists::at(items, first + i));
         i += 1;
     }
     j
@@ -81,8 +81,8 @@ fn visit(
     if misses(corners, n, c) {
         return k;
     }
-    let first = sorts::at(links, 2 * n) as usize;
-    let count = sorts::at(links, 2 * n + 1) as usize;
+    let first = lists::at(links, 2 * n) as usize;
+    let count = lists::at(links, 2 * n + 1) as usize;
     if count > 0 {
         return copy(items, first, count, list, k);
     }

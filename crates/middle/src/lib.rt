@@ -35,10 +35,10 @@ fn parted_out(keys: &[f64], v: f64, list: &[u32], work: &mut [u32]) -> usize
     let mut a: usize = 0;
     let mut i: usize = 0;
     while i < n {
-        let x = sorts::at(list, i);
+        let x = lists::at(list, i);
         let c = bit(key_of(keys, x) < v);
-        sorts::put(work, a, x);
-        sorts::put(work, n - 1 - (i - a), x);
+        lists::put(work, a, x);
+        lists::put(work, n - 1 - (i - a), x);
         a += c;
         i += 1;
     }
@@ -52,7 +52,7 @@ fn parted_in(keys: &[f64], v: f64, part: &mut [u32]) -> usize
     let mut a: usize = 0;
     let mut i: usize = 0;
     while i < part.len() {
-        let x = sorts::at(part, i);
+        let x = lists::at(part, i);
         let y = part[a];
         let c = bit(key_of(keys, x) < v);
         part[i] = y;
@@ -68,7 +68,7 @@ fn same(keys: &[f64], v: f64, part: &[u32]) -> usize {
     let mut a: usize = 0;
     let mut i: usize = 0;
     while i < part.len() {
-        a += bit(key_of(keys, sorts::at(part, i)) == v);
+        a += bit(key_of(keys, lists::at(part, i)) == v);
         i += 1;
     }
     a
@@ -79,7 +79,7 @@ fn below(keys: &[f64], v: f64, part: &[u32]) -> usize {
     let mut a: usize = 0;
     let mut i: usize = 0;
     while i < part.len() {
-        a += bit(key_of(keys, sorts::at(part, i)) < v);
+        a += bit(key_of(keys, lists::at(part, i)) < v);
         i += 1;
     }
     a
@@ -159,7 +159,7 @@ fn most(s: Four) -> f64 {
 // The key of the item at i of part, `none` past the end.
 fn key_or(keys: &[f64], part: &[u32], i: usize, none: f64) -> f64 {
     if i < part.len() {
-        key_of(keys, sorts::at(part, i))
+        key_of(keys, lists::at(part, i))
     } else {
         none
     }
@@ -237,7 +237,7 @@ fn between(l: f64, h: f64, r: usize, n: usize) -> f64 {
 fn tried(keys: &[f64], l: f64, h: f64, part: &[u32], r: usize, own: bool) -> f64 {
     let n = part.len();
     if own {
-        return key_of(keys, sorts::at(part, n / 2));
+        return key_of(keys, lists::at(part, n / 2));
     }
     between(l, h, r, n)
 }
@@ -327,7 +327,7 @@ fn window(keys: &[f64], l: f64, h: f64, list: &[u32], work: &mut [u32]) -> Near
     let mut c: usize = 0;
     let mut i: usize = 0;
     while i < list.len() {
-        let x = sorts::at(list, i);
+        let x = lists::at(list, i);
         let k = key_of(keys, x);
         work[c] = x;
         a += bit(k < l);
@@ -383,7 +383,7 @@ fn tied(keys: &[f64], v: f64, list: &[u32], r: usize) -> u32 {
     let mut c: usize = 0;
     let mut i: usize = 0;
     while i < list.len() {
-        let x = sorts::at(list, i);
+        let x = lists::at(list, i);
         let e = key_of(keys, x) == v;
         t = chosen(e & (c == r), x, t);
         c += bit(e);

@@ -15,14 +15,12 @@ use Rattle.number.proofs.OrderLaws.{le-through, below-through, below-le, below-
 use Rattle.boundary.specs.declared.Point.{Point}
 use Rattle.boundary.specs.declared.Bounds.{Bounds}
 use Rattle.boundary.specs.Boxes.{FieldPoint, gapOf}
-use Rattle.boundary.specs.Folds.{fold}
+use Rattle.lists.specs.Lists.{fold, times, In}
 use Rattle.sorts.specs.Keys.{totalLess}
-use Rattle.sorts.specs.Sort.{times, In}
-use Rattle.sorts.proofs.SortLaws.{times-append}
+use Rattle.lists.proofs.MemberLaws.{times-append, in-cons, in-first, in-rest}
 use Rattle.splits.specs.Tree.{Tree, leaf, inner, indexOf, itemsOf, EachNode}
 use Rattle.nodes.specs.Layout.{extra}
 use Rattle.boundary.proofs.AroundLaws.{Number}
-use Rattle.index.proofs.HullLaws.{in-cons, in-first, in-rest}
 use Rattle.set.specs.Set.{Outline, setBoxes, Fitting, DoubleSet}
 use Rattle.search.specs.declared.Best.{Best}
 use Rattle.search.specs.Least.{magnitudeAt, leastOf, leastIn}

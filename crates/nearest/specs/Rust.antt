@@ -8,7 +8,7 @@ use lib.Ieee.{Float, lt}
 use Rattle.boundary.specs.declared.Point.{Point}
 use Rattle.boundary.specs.declared.Bounds.{Bounds}
 use Rattle.boundary.specs.Boxes.{gapOf}
-use Rattle.boundary.specs.Folds.{fold}
+use Rattle.lists.specs.Lists.{fold}
 use Rattle.sorts.specs.Keys.{totalLess}
 use Rattle.splits.specs.Tree.{Tree, leaf, inner, indexOf}
 use Rattle.nodes.specs.Layout.{extra}

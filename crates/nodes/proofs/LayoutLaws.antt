@@ -7,11 +7,11 @@ use native.Mathlib.Omega.{arith}
 use lib.ListN.{length, length-append}
 use lib.Seq.{sets}
 use Rattle.boundary.specs.declared.Bounds.{Bounds}
-use Rattle.accept.specs.Lists.{atFront}
+use Rattle.lists.specs.Lists.{atFront}
 use Rattle.nodes.specs.declared.Node.{Node}
 use Rattle.splits.specs.Tree.{Tree, leaf, inner, itemsOf}
 use Rattle.nodes.specs.Layout.{extra, nodeOf, below, nodesOf, placed}
-use Rattle.entries.proofs.StoreLaws.{sets-append, sets-swap, sets-front, flat-length, flat-append}
+use Rattle.lists.proofs.StoreLaws.{sets-append, sets-swap, sets-front, flat-length, flat-append}
 
 -- there are as many nodes below as are counted
 pub length-below : (t : Tree) (at next : ℕ) → length (below t at next) ≡ extra t

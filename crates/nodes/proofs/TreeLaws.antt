@@ -12,9 +12,11 @@ use lib.Seq.{length-take-le}
 use borrow.Author.Tests.{lt-ltb, le-ltb, ltb-true, ltb-false}
 use Rattle.boundary.specs.declared.Point.{Point}
 use Rattle.boundary.specs.declared.Bounds.{Bounds}
-use Rattle.sorts.specs.Sort.{sort, times}
+use Rattle.lists.specs.Lists.{times}
+use Rattle.sorts.specs.Sort.{sort}
 use Rattle.sorts.specs.Keys.{goes}
-use Rattle.sorts.proofs.SortLaws.{length-sort, times-sort, times-parts}
+use Rattle.lists.proofs.MemberLaws.{times-parts}
+use Rattle.sorts.proofs.SortLaws.{length-sort, times-sort}
 use Rattle.sorts.proofs.PartLaws.{ascend-again, goes-again}
 use Rattle.splits.specs.Tree.{Tree, leaf, inner, hullOf, spreadOf, alongY, along, ordered, treeOn, treeOf, itemsOf}
 use Rattle.nodes.specs.Layout.{extra, nodesOf}

@@ -27,8 +27,8 @@ pub fn put_links(links: &mut [u32], n: usize, first: u32, count: u32)
     ensures { λ _. ⌜ now (links .exit) ≡ sets (now (links .entry)) (2 * n) (first ∷ count ∷ []) ⌝ }
 {
     let k = 2 * n;
-    sorts::put(links, k, first);
-    sorts::put(links, k + 1, count);
+    lists::put(links, k, first);
+    lists::put(links, k + 1, count);
 }
 
 // Puts the node of the tree over list, which ascends, and splits it, unless it is a leaf's.

@@ -5,13 +5,12 @@ use mathlib.Core.Bool.{Bool, true, false, cond, _||_}
 use Prim.Native.Nat.{ℕ, zero, suc, _-_, _^_}
 use lib.Dec.{T}
 use lib.Ieee.{Float, fin, minus, binary64, add, sub, mul, div, neg, le, lt, eq, fits}
-use Rattle.number.specs.Exact.{zeroᶠ}
+use Rattle.number.specs.Exact.{zeroᶠ, one}
 use Rattle.number.specs.Root.{sqrtOf}
 use Rattle.number.specs.Hypot.{hypotOf}
 use Rattle.signs.specs.Signs.{absOf, maxOf}
 use Rattle.number.proofs.OrderLaws.{below-not-le, below-through}
 use Rattle.number.proofs.Monotone.{one-le-quotient}
-use Rattle.boundary.specs.Line.{one}
 use Rattle.boundary.specs.declared.Point.{Point}
 use Rattle.pieces.specs.declared.Curve.{Curve}
 use Rattle.boundary.specs.Line.{half, middle}

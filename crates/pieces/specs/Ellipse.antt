@@ -2,14 +2,14 @@
 use mathlib.Core.Bool.{_||_, cond}
 use Prim.Native.Nat.{ℕ, zero, suc}
 use lib.Ieee.{Float, binary64, add, sub, mul, div, lt, eq}
-use Rattle.number.specs.Exact.{zeroᶠ}
+use Rattle.number.specs.Exact.{zeroᶠ, one}
 use Rattle.number.specs.Root.{sqrtOf}
 use Rattle.number.specs.Hypot.{hypotOf}
 use Rattle.signs.specs.Signs.{absOf, copysignOf, maxOf}
 use Rattle.boundary.specs.declared.Point.{Point}
 use Rattle.pieces.specs.declared.Curve.{Curve}
 use Rattle.boundary.specs.declared.Near.{Near}
-use Rattle.boundary.specs.Line.{one, middle}
+use Rattle.boundary.specs.Line.{middle}
 
 abbrev pub square : Float → Float
 square x = mul binary64 x x

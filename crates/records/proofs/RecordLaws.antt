@@ -10,19 +10,17 @@ use borrow.Author.Tests.{ltb-false, le-ltb}
 use lib.ListN.{length, getD, set, take, drop, length-replicate}
 use lib.Seq.{take-at, drop-cons, set-at, append-snoc, ext-getD}
 use lib.Ieee.{Float}
-use Rattle.boundary.specs.Folds.{run}
-use Rattle.boundary.proofs.RunLaws.{run-last}
+use Rattle.lists.proofs.RunLaws.{run-last, length-run, run-at}
+use Rattle.lists.specs.Lists.{run, atFront}
 use Rattle.accept.specs.declared.Refusal.{Refusal}
 use Rattle.accept.specs.declared.Refusal.the-variants.{ShortBuffer}
 use Rattle.accept.specs.declared.Test.{Test}
 use Rattle.accept.specs.declared.Test.the-variants.{Passed, Failed}
 use Rattle.accept.specs.Answers.{Outcome}
-use Rattle.accept.specs.Lists.{atFront}
 use Rattle.accept.specs.Refusals.{number, given, _refusing_when_}
 use Rattle.accept.proofs.TestLaws.{refusing-passed, given-map}
 use Rattle.nodes.specs.declared.Node.{Node}
 use Rattle.entries.specs.Entries.{boxCount}
-use Rattle.entries.proofs.StoreLaws.{length-run, run-at}
 use Rattle.splits.specs.Tree.{Tree, indexOf, itemsOf}
 use Rattle.nodes.specs.Layout.{nodeOf, nodesOf, cornersOf, linksOf}
 use Rattle.index.specs.declared.BuildFields.{BuildFields}

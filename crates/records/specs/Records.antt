@@ -8,7 +8,7 @@ use Rattle.number.specs.Exact.{zeroᶠ}
 use Rattle.accept.specs.declared.Refusal.the-variants.{ShortBuffer}
 use Rattle.accept.specs.declared.Test.{Test}
 use Rattle.accept.specs.Answers.{Outcome}
-use Rattle.accept.specs.Lists.{atFront}
+use Rattle.lists.specs.Lists.{atFront}
 use Rattle.accept.specs.Refusals.{number, given, _refusing_when_}
 use Rattle.nodes.specs.declared.Node.{Node}
 use Rattle.entries.specs.Entries.{boxAt}

@@ -3,9 +3,8 @@ ghost use mathlib.Core.Path.{_≡_};
 ghost use Prim.Native.Nat.{_≤_, _<_, _^_};
 ghost use mathlib.Core.List.{_++_};
 ghost use lib.ListN.{length, take, drop};
-ghost use Rattle.boundary.specs.Folds.{run};
+ghost use Rattle.lists.specs.Lists.{run, atFront};
 ghost use Rattle.accept.specs.declared.Test.the-variants.{Passed};
-ghost use Rattle.accept.specs.Lists.{atFront};
 ghost use Rattle.splits.specs.Tree.{indexOf};
 ghost use Rattle.index.specs.Answers.{boxesTested};
 ghost use Rattle.records.specs.Records.{nodeIn, blankNodes, nodesTested, recording, recordsOutcome};
@@ -36,8 +35,8 @@ fn node_in(corners: &[f64], links: &[u32], i: usize) -> Node
     Node {
         lo,
         hi,
-        first: sorts::at(links, k),
-        count: sorts::at(links, k + 1),
+        first: lists::at(links, k),
+        count: lists::at(links, k + 1),
     }
 }
 

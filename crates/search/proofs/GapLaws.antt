@@ -12,13 +12,12 @@ use Rattle.number.proofs.OrderLaws.{below-le, left-not-nan}
 use Rattle.boundary.specs.declared.Point.{Point}
 use Rattle.boundary.specs.declared.Bounds.{Bounds}
 use Rattle.boundary.specs.Boxes.{FieldPoint, FiniteBox, Around, widenedOf, gapOf}
-use Rattle.boundary.specs.Folds.{run}
+use Rattle.lists.specs.Lists.{run, In}
 use Rattle.boundary.proofs.AroundLaws.{Number}
 use Rattle.boundary.proofs.BoxLaws.{widened-box-finite}
-use Rattle.sorts.specs.Sort.{In}
-use Rattle.sorts.proofs.SortLaws.{times-append}
+use Rattle.lists.proofs.MemberLaws.{times-append}
 use Rattle.entries.specs.Entries.{boxCount, wideAt, centreOf}
-use Rattle.entries.proofs.StoreLaws.{length-run}
+use Rattle.lists.proofs.RunLaws.{length-run}
 use Rattle.splits.specs.Tree.{Tree, leaf, inner, hullOf, treeOf, indexOf, itemsOf, EachNode}
 use Rattle.nodes.specs.Layout.{extra, nodesOf}
 use Rattle.nodes.proofs.LayoutLaws.{length-below}

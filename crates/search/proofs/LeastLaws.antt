@@ -10,10 +10,9 @@ use borrow.Author.Tests.{ltb-true, ltb-false}
 use lib.Dec.{T, ltb}
 use lib.Ieee.{Float, lt, le, eq}
 use Rattle.number.proofs.OrderLaws.{le-self, le-through, le-level, level-le, not-below, below-le, below-not-le}
-use Rattle.boundary.specs.Folds.{run, fold}
-use Rattle.sorts.specs.Sort.{times, In}
+use Rattle.lists.specs.Lists.{run, fold, times, In}
 use Rattle.boundary.proofs.AroundLaws.{Number}
-use Rattle.index.proofs.HullLaws.{in-cons, in-first, in-rest}
+use Rattle.lists.proofs.MemberLaws.{in-cons, in-first, in-rest}
 use Rattle.search.specs.declared.Best.{Best}
 use Rattle.search.specs.Least.{closer, leastOf}
 use Rattle.search.specs.Walk.{improved, bestOf}

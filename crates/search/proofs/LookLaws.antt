@@ -9,14 +9,13 @@ use lib.ListN.{length}
 use lib.Ieee.{Float}
 use Rattle.boundary.specs.declared.Point.{Point}
 use Rattle.boundary.specs.Boxes.{inField, FieldPoint}
-use Rattle.boundary.specs.Folds.{run, fold, any}
+use Rattle.lists.specs.Lists.{run, fold, any, In}
 use Rattle.distance.specs.Nearest.{nearestOf}
 use Rattle.boundary.specs.Outline.{count, edges}
 use Rattle.nodes.specs.Layout.{itemAt}
-use Rattle.index.proofs.HullLaws.{in-first, in-rest}
+use Rattle.lists.proofs.MemberLaws.{in-first, in-rest}
 use Rattle.set.specs.Set.{Outline, outlineIn, Fitting, DoubleSet}
 use Rattle.set.proofs.SetLaws.{outline-in-field, outline-numbers}
-use Rattle.sorts.specs.Sort.{In}
 use Rattle.search.specs.declared.Best.{Best}
 use Rattle.search.specs.Least.{magnitudeAt}
 use Rattle.search.specs.Walk.{improved, bestOf}

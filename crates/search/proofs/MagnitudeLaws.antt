@@ -25,7 +25,7 @@ use Rattle.boundary.specs.declared.Near.{Near}
 use Rattle.boundary.specs.declared.Distance.{Distance}
 use Rattle.boundary.specs.declared.Bounds.{Bounds}
 use Rattle.boundary.specs.Boxes.{PointOf, FieldValue, FieldPoint, FieldEdge, FieldBox, Inside, Around, nowhere, spot, stretched, widenedOf, gapOf}
-use Rattle.boundary.specs.Folds.{run, fold}
+use Rattle.lists.specs.Lists.{run, fold}
 use Rattle.boundary.specs.Line.{footOf, lineNear}
 use Rattle.distance.specs.Nearest.{nearer, farAway, nearestOf, roundingOf, flipped, awayAlong, signedOf}
 use Rattle.boundary.specs.Outline.{count, after, vertexAt, edgeAt, vertices, edges}

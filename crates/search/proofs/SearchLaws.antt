@@ -10,8 +10,8 @@ use lib.Ieee.{Float, inf, lt, le}
 use lib.Ieee.Bits.{is-true}
 use Rattle.number.proofs.OrderLaws.{le-through, below-through, below-le, below-not-le}
 use Rattle.boundary.specs.declared.Point.{Point}
-use Rattle.sorts.specs.Sort.{times, In}
-use Rattle.sorts.proofs.SortLaws.{times-append}
+use Rattle.lists.proofs.MemberLaws.{times-append}
+use Rattle.lists.specs.Lists.{times, In}
 use Rattle.heap.specs.declared.Entry.{Entry}
 use Rattle.heap.specs.Heap.{Heaped, total, Pushed, Popped}
 use Rattle.heap.proofs.HeapLaws.{all-kept, all-left, popped-gap}

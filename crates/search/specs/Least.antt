@@ -6,7 +6,7 @@ use lib.ListN.{length}
 use lib.Ieee.{Float, lt}
 use Rattle.signs.specs.Signs.{absOf}
 use Rattle.boundary.specs.declared.Point.{Point}
-use Rattle.boundary.specs.Folds.{run, fold}
+use Rattle.lists.specs.Lists.{run, fold}
 use Rattle.boundary.specs.Outline.{edges}
 use Rattle.distance.specs.Nearest.{nearestOf, signedOf}
 use Rattle.geometry.specs.Polygon.{containsOf}

@@ -9,10 +9,9 @@ use lib.Ieee.{Float, binary64, fits, lt, eq}
 use Rattle.boundary.specs.declared.Point.{Point}
 use Rattle.boundary.specs.declared.Bounds.{Bounds}
 use Rattle.boundary.specs.Boxes.{BoxOf, Around, pointInField, widenedOf, gapOf}
-use Rattle.boundary.specs.Folds.{fold}
+use Rattle.lists.specs.Lists.{fold, In}
 use Rattle.heap.specs.declared.Entry.{Entry}
 use Rattle.heap.specs.Heap.{Pushed}
-use Rattle.sorts.specs.Sort.{In}
 use Rattle.entries.specs.Entries.{boxAt}
 use Rattle.splits.specs.Tree.{Tree, itemsOf, EachNode}
 use Rattle.nodes.specs.Layout.{extra}

@@ -6,12 +6,11 @@ ghost use lib.Dec.{T};
 ghost use lib.ListN.{length};
 ghost use lib.Ieee.{binary64, fits};
 ghost use Rattle.boundary.specs.Boxes.{inField, pointInField, gapAlong, gapOf};
-ghost use Rattle.boundary.specs.Folds.{run, any};
+ghost use Rattle.lists.specs.Lists.{run, any, In};
 ghost use Rattle.distance.specs.Nearest.{nearestOf};
 ghost use Rattle.boundary.specs.Outline.{count, edges};
 ghost use Rattle.heap.specs.Order.{Number};
 ghost use Rattle.heap.specs.Heap.{entryAt, Heaped};
-ghost use Rattle.sorts.specs.Sort.{In};
 ghost use Rattle.entries.specs.Entries.{boxAt};
 ghost use Rattle.nodes.specs.Layout.{itemAt};
 ghost use Rattle.index.specs.Buffer.{buffer};
@@ -70,7 +69,7 @@ pub fn all_held(v: &[f64])
 {
     let mut i = 0;
     while i < v.len() {
-        held(entries::number_at(v, i));
+        held(lists::number_at(v, i));
         i += 1;
     }
 }
@@ -111,7 +110,7 @@ fn look(
     let mut best = start;
     let mut i = 0;
     while i < count {
-        let k = sorts::at(items, (first as usize) + (i as usize));
+        let k = lists::at(items, (first as usize) + (i as usize));
         best = improve(best, k, magnitude(v, counts, starts, k, p));
         i += 1;
     }
@@ -159,8 +158,8 @@ fn search_in(
         }
         n -= 1;
         let k = 2 * (e.node as usize);
-        let first = sorts::at(links, k);
-        let count = sorts::at(links, k + 1);
+        let first = lists::at(links, k);
+        let count = lists::at(links, k + 1);
         if count > 0 {
             best = look(v, counts, starts, items, first, count, p, best);
         } else {

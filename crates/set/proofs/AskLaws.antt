@@ -11,13 +11,15 @@ use lib.Seq.{sets}
 use lib.Ieee.{Float}
 use Rattle.boundary.specs.declared.Point.{Point}
 use Rattle.boundary.specs.Boxes.{pointInField}
-use Rattle.boundary.specs.Folds.{run}
+use Rattle.lists.specs.Lists.{run}
 use Rattle.accept.specs.declared.Test.the-variants.{Passed}
 use Rattle.accept.proofs.TestLaws.{refusing-passed}
 use Rattle.index.specs.Answers.{Accepted}
 use Rattle.index.specs.Buffer.{IndexBuffer}
-use Rattle.entries.proofs.StoreLaws.{length-run, run-at, sets-front}
-use Rattle.index.proofs.GrowLaws.{or-none, front-of}
+use Rattle.lists.proofs.FoldLaws.{or-none}
+use Rattle.lists.proofs.StoreLaws.{sets-front}
+use Rattle.lists.proofs.RunLaws.{length-run, run-at}
+use Rattle.index.proofs.GrowLaws.{front-of}
 use Rattle.set.specs.Set.{startOf, outlinesOf, setBoxes}
 use Rattle.set.specs.Tests.{setQueryTested}
 use Rattle.set.specs.Answers.{Ready, Starts}

@@ -13,9 +13,10 @@ use Rattle.number.proofs.OrderLaws.{le-self, le-through}
 use Rattle.boundary.specs.declared.Point.{Point}
 use Rattle.boundary.specs.declared.Bounds.{Bounds}
 use Rattle.boundary.specs.Boxes.{PointOf, BoxOf, inField, lesser, greater, hull, nowhere, stretched}
-use Rattle.boundary.specs.Folds.{run, fold}
+use Rattle.lists.specs.Lists.{run, fold}
 use Rattle.boundary.specs.Outline.{count, vertexAt, vertices}
-use Rattle.boundary.proofs.AlongLaws.{ends-between, one-of}
+use Rattle.number.proofs.Basics.{one-of}
+use Rattle.boundary.proofs.AlongLaws.{ends-between}
 use Rattle.geometry.specs.Polygon.{boundsOf}
 use Rattle.boundary.specs.Boxes.{boxFits}
 

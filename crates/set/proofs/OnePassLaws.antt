@@ -4,7 +4,7 @@ use mathlib.Core.Bool.{Bool, true, false, cond, _||_}
 use mathlib.Core.List.{List, [], _∷_}
 use Prim.Native.Nat.{ℕ, _≤_, min}
 use native.Mathlib.Omega.{arith}
-use Rattle.boundary.specs.Folds.{fold, any}
+use Rattle.lists.specs.Lists.{fold, any}
 use Rattle.accept.specs.declared.Refusal.the-variants.{NotFinite, OutsideField, EqualNeighbours, ZeroArea, NegativeArea}
 use Rattle.accept.specs.declared.Test.the-variants.{Passed}
 use Rattle.accept.specs.Refusals.{_refusing_when_, notFinite, outsideField, equalNeighbours, zeroArea, negativeArea, valuesTested, signTested}

@@ -13,9 +13,9 @@ use lib.Seq.{ext-getD, getD-take, getD-drop}
 use lib.Ieee.{Float, nan, binary64, fits}
 use Rattle.boundary.specs.declared.Bounds.{Bounds}
 use Rattle.boundary.specs.Boxes.{inField, FieldValue, FieldBox}
-use Rattle.boundary.specs.Folds.{run, any}
+use Rattle.lists.specs.Lists.{run, any}
 use Rattle.boundary.specs.Outline.{count}
-use Rattle.boundary.proofs.FoldLaws.{any-at}
+use Rattle.lists.proofs.FoldLaws.{any-at, or-none, none-of}
 use Rattle.accept.specs.declared.Test.{Test}
 use Rattle.accept.specs.declared.Test.the-variants.{Passed}
 use Rattle.accept.specs.Refusals.{notFinite, outsideField, equalNeighbours, zeroArea, negativeArea}
@@ -23,12 +23,11 @@ use Rattle.accept.proofs.TestLaws.{refusing-passed}
 use Rattle.entries.specs.Entries.{boxCount, boxAt, boxNumbers, boxesOf}
 use Rattle.boundary.specs.Boxes.{boxFits}
 use Rattle.index.specs.Answers.{boxesTested}
-use Rattle.entries.proofs.StoreLaws.{length-run, run-at, flat-length}
+use Rattle.lists.proofs.StoreLaws.{flat-length}
+use Rattle.lists.proofs.RunLaws.{length-run, run-at}
 use Rattle.entries.proofs.EntryLaws.{box-held}
-use Rattle.index.proofs.GrowLaws.{or-none}
 use Rattle.set.specs.Set.{Outline, startOf, outlineAt, outlinesOf, outlineIn, outlineBox, setBox, setBoxes, Fit, Fitting, Doubles, DoubleSet}
 use Rattle.set.specs.Tests.{addsUp, anyMany, overSize, listsTested, outlinesTested, setTested}
-use Rattle.set.proofs.AnyLaws.{none-of}
 use Rattle.set.proofs.BoundsLaws.{InField, bounds-spanned, spanned-box, spanned-fits}
 
 -- ---- how many vertices stand before an outline

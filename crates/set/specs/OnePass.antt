@@ -4,7 +4,7 @@ use mathlib.Core.List.{List}
 use Prim.Native.Nat.{ℕ, min}
 use lib.Dec.{eqb}
 use lib.Ieee.{neg, lt, le, eq}
-use Rattle.boundary.specs.Folds.{fold, any}
+use Rattle.lists.specs.Lists.{fold, any}
 use Rattle.boundary.specs.Outline.{edges}
 use Rattle.accept.specs.declared.Refusal.the-variants.{NotFinite, OutsideField, EqualNeighbours, ZeroArea, NegativeArea}
 use Rattle.accept.specs.declared.Test.{Test}

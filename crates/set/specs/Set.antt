@@ -7,7 +7,7 @@ use lib.Dec.{T}
 use lib.ListN.{length, getD, take, drop}
 use lib.Ieee.{Float, nan, binary64, fits}
 use Rattle.boundary.specs.declared.Bounds.{Bounds}
-use Rattle.boundary.specs.Folds.{run, any}
+use Rattle.lists.specs.Lists.{run, any}
 use Rattle.boundary.specs.Outline.{count, vertices}
 use Rattle.accept.specs.Refusals.{outsideField}
 use Rattle.geometry.specs.Polygon.{boundsOf}

@@ -7,7 +7,7 @@ use lib.ListN.{length}
 use lib.Ieee.{Float}
 use Rattle.boundary.specs.declared.Point.{Point}
 use Rattle.boundary.specs.Boxes.{pointInField}
-use Rattle.boundary.specs.Folds.{any}
+use Rattle.lists.specs.Lists.{any}
 use Rattle.boundary.specs.Outline.{count}
 use Rattle.accept.specs.declared.Refusal.the-variants.{OddCount, BadCounts, TooFew, TooMany, NotFinite, OutsideField, EqualNeighbours, ZeroArea, NegativeArea, BadPoint, ShortBuffer}
 use Rattle.accept.specs.declared.Test.{Test}

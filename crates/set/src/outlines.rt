@@ -3,7 +3,7 @@ ghost use mathlib.Core.Path.{_≡_};
 ghost use Prim.Native.Nat.{_-_, _*_, _≤_, _<_, _^_};
 ghost use lib.ListN.{length, take, drop};
 ghost use lib.Seq.{sets};
-ghost use Rattle.boundary.specs.Folds.{run};
+ghost use Rattle.lists.specs.Lists.{run};
 ghost use Rattle.boundary.specs.Outline.{vertices};
 ghost use Rattle.geometry.specs.Polygon.{boundsOf};
 ghost use Rattle.entries.specs.Entries.{boxNumbers};
@@ -19,8 +19,8 @@ pub fn put_starts(counts: &[u32], starts: &mut [u32])
     let mut sum = 0;
     let mut k = 0;
     while k < counts.len() {
-        sorts::put(starts, k, sum);
-        sum = sum + sorts::at(counts, k);
+        lists::put(starts, k, sum);
+        sum = sum + lists::at(counts, k);
         k += 1;
     }
 }
@@ -31,8 +31,8 @@ pub fn outline_at<'a>(v: &'a [f64], counts: &[u32], starts: &[u32], k: usize) ->
     ensures { λ r. ⌜ now r ≡ outlineIn (outlinesOf (now (v .entry)) (now (counts .entry))) k ⌝ }
 {
     if k < counts.len() {
-        let at = 2 * (sorts::at(starts, k) as usize);
-        let end = at + 2 * (sorts::at(counts, k) as usize);
+        let at = 2 * (lists::at(starts, k) as usize);
+        let end = at + 2 * (lists::at(counts, k) as usize);
         return &v[at..end];
     }
     &v[0..0]
@@ -54,7 +54,7 @@ pub fn put_boxes(v: &[f64], counts: &[u32], boxes: &mut [f64])
     let mut at = 0;
     let mut k = 0;
     while k < counts.len() {
-        let end = at + 2 * (sorts::at(counts, k) as usize);
+        let end = at + 2 * (lists::at(counts, k) as usize);
         put_box(v, at, end, boxes, k);
         at = end;
         k += 1;

@@ -5,7 +5,7 @@ ghost use mathlib.Core.Bool.{cond};
 ghost use Prim.Native.Nat.{_-_, _*_, _≤_, min};
 ghost use lib.Dec.{eqb, ltb};
 ghost use lib.ListN.{length, take, drop};
-ghost use Rattle.boundary.specs.Folds.{any};
+ghost use Rattle.lists.specs.Lists.{any};
 ghost use Rattle.index.specs.Buffer.{buffer};
 ghost use Rattle.set.specs.Set.{startOf, outlinesOf};
 ghost use Rattle.set.specs.Tests.{listsTested, setTested, setQueryTested};
@@ -28,7 +28,7 @@ fn adds_up(counts: &[u32], n: usize) -> bool
     let mut left = n;
     let mut k = 0;
     while k < counts.len() {
-        let c = sorts::at(counts, k) as usize;
+        let c = lists::at(counts, k) as usize;
         if left < c {
             return false;
         }
@@ -46,7 +46,7 @@ fn any_off(counts: &[u32], few: bool) -> bool
     let mut found = false;
     let mut k = 0;
     while k < counts.len() {
-        found = found | is_off(few, sorts::at(counts, k));
+        found = found | is_off(few, lists::at(counts, k));
         k += 1;
     }
     found
@@ -91,7 +91,7 @@ fn least_failed(v: &[f64], counts: &[u32]) -> u32
     let mut at = 0;
     let mut k = 0;
     while k < counts.len() {
-        let end = at + 2 * (sorts::at(counts, k) as usize);
+        let end = at + 2 * (lists::at(counts, k) as usize);
         least = lesser(least, rank_in(v, at, end));
         at = end;
         k += 1;

@@ -11,55 +11,56 @@ use lib.ListN.{length, getD, set, take, drop, length-set, length-drop, drop-of-l
 use lib.Seq.{drop-cons, take-suc, take-all, take-at, drop-at, drop-drop, drop-set-lt, take-set-le, take-suc-set, length-take-le}
 use lib.Ieee.{Float}
 use borrow.Author.Tests.{le-leb, leb-true, leb-false}
-use Rattle.sorts.specs.Sort.{insert, sort, keep, others, Dealt, Each, Sorted, halves}
+use Rattle.lists.specs.Lists.{Every}
+use Rattle.sorts.specs.Sort.{insert, sort, keep, others, Dealt, Sorted, halves}
 use Rattle.sorts.specs.Keys.{goesBy, goes, ahead, aheadBit}
 use Rattle.sorts.proofs.Lists.{rest-of, whole-of}
 use Rattle.sorts.proofs.SortLaws.{length-sort}
 use Rattle.sorts.proofs.Order.{goes-total, goes-trans, goes-antisym, ahead-goes}
 
 -- ---- each member
-pub each-all : {P Q : ℕ → Type 0} (xs : List ℕ) → ((x : ℕ) → P x → Q x) → Each P xs → Each Q xs
-unfolding Each
+pub each-all : {P Q : ℕ → Type 0} (xs : List ℕ) → ((x : ℕ) → P x → Q x) → Every P xs → Every Q xs
+unfolding Every
 each-all [] f e = tt
 each-all (x ∷ xs) f e = (f x (e .0), each-all xs f (e .1))
 
-pub each-keep : (P : ℕ → Type 0) (p : ℕ → Bool) (xs : List ℕ) → Each P xs → Each P (keep p xs)
-unfolding Each keep
+pub each-keep : (P : ℕ → Type 0) (p : ℕ → Bool) (xs : List ℕ) → Every P xs → Every P (keep p xs)
+unfolding Every keep
 each-keep P p [] e = tt
 each-keep P p (x ∷ xs) e = go (p x) (each-keep P p xs (e .1))
   where
-    go : (b : Bool) → Each P (keep p xs) → Each P (cond b (x ∷ keep p xs) (keep p xs))
+    go : (b : Bool) → Every P (keep p xs) → Every P (cond b (x ∷ keep p xs) (keep p xs))
     go true f = (e .0, f)
     go false f = f
 
 -- what is kept passes
-pub each-kept : (p : ℕ → Bool) (xs : List ℕ) → Each (λ x. p x ≡ true) (keep p xs)
-unfolding Each keep
+pub each-kept : (p : ℕ → Bool) (xs : List ℕ) → Every (λ x. p x ≡ true) (keep p xs)
+unfolding Every keep
 each-kept p [] = tt
 each-kept p (x ∷ xs) = go (p x) refl (each-kept p xs)
   where
-    go : (b : Bool) → p x ≡ b → Each (λ x. p x ≡ true) (keep p xs) → Each (λ x. p x ≡ true) (cond b (x ∷ keep p xs) (keep p xs))
+    go : (b : Bool) → p x ≡ b → Every (λ x. p x ≡ true) (keep p xs) → Every (λ x. p x ≡ true) (cond b (x ∷ keep p xs) (keep p xs))
     go true h f = (h, f)
     go false h f = f
 
 module _ (le : ℕ → ℕ → Bool) where
-  pub each-insert : (P : ℕ → Type 0) (x : ℕ) (ys : List ℕ) → P x → Each P ys → Each P (insert le x ys)
-  unfolding Each insert
+  pub each-insert : (P : ℕ → Type 0) (x : ℕ) (ys : List ℕ) → P x → Every P ys → Every P (insert le x ys)
+  unfolding Every insert
   each-insert P x [] p e = (p, tt)
   each-insert P x (y ∷ ys) p e = go (le x y) (each-insert P x ys p (e .1))
     where
-      go : (b : Bool) → Each P (insert le x ys) → Each P (cond b (x ∷ y ∷ ys) (y ∷ insert le x ys))
+      go : (b : Bool) → Every P (insert le x ys) → Every P (cond b (x ∷ y ∷ ys) (y ∷ insert le x ys))
       go true f = (p, e)
       go false f = (e .0, f)
 
-  pub each-sort : (P : ℕ → Type 0) (xs : List ℕ) → Each P xs → Each P (sort le xs)
-  unfolding Each sort
+  pub each-sort : (P : ℕ → Type 0) (xs : List ℕ) → Every P xs → Every P (sort le xs)
+  unfolding Every sort
   each-sort P [] e = tt
   each-sort P (x ∷ xs) e = each-insert P x (sort le xs) (e .0) (each-sort P xs (e .1))
 
   -- what goes before all of a second list is put into the first
-  insert-front : (x : ℕ) (ss ts : List ℕ) → Each (λ t. le x t ≡ true) ts → insert le x (ss ++ ts) ≡ insert le x ss ++ ts
-  unfolding insert Each
+  insert-front : (x : ℕ) (ss ts : List ℕ) → Every (λ t. le x t ≡ true) ts → insert le x (ss ++ ts) ≡ insert le x ss ++ ts
+  unfolding insert Every
   insert-front x [] [] e = refl
   insert-front x [] (t ∷ ts) e = rw (e .0)
   insert-front x (s ∷ ss) ts e = go (le x s) (insert-front x ss ts e)
@@ -69,14 +70,14 @@ module _ (le : ℕ → ℕ → Bool) where
       go false ih = ap (λ (l : List ℕ). s ∷ l) ih
 
   -- a list none of whose members goes after one of a second
-  pub sort-apart : (al bl : List ℕ) → Each (λ a. Each (λ b. le a b ≡ true) bl) al → sort le (al ++ bl) ≡ sort le al ++ sort le bl
-  unfolding sort Each
+  pub sort-apart : (al bl : List ℕ) → Every (λ a. Every (λ b. le a b ≡ true) bl) al → sort le (al ++ bl) ≡ sort le al ++ sort le bl
+  unfolding sort Every
   sort-apart [] bl e = refl
   sort-apart (a ∷ al) bl e = ap (insert le a) (sort-apart al bl (e .1)) ∙ insert-front a (sort le al) (sort le bl) (each-sort (λ b. le a b ≡ true) bl (e .0))
 
   -- ---- what is in order
   pub sort-sorted : (xs : List ℕ) → Sorted le xs → sort le xs ≡ xs
-  unfolding Sorted Each sort insert
+  unfolding Sorted Every sort insert
   sort-sorted [] s = refl
   sort-sorted (x ∷ []) s = refl
   sort-sorted (x ∷ y ∷ ys) s = ap (insert le x) (sort-sorted (y ∷ ys) (s .1)) ∙ rw (s .0 .0)
@@ -187,7 +188,7 @@ module _ (le : ℕ → ℕ → Bool)
     (total : (a b : ℕ) → le a b ≡ false → le b a ≡ true)
     (trans : (a b c : ℕ) → le a b ≡ true → le b c ≡ true → le a c ≡ true) where
   sorted-insert : (x : ℕ) (ys : List ℕ) → Sorted le ys → Sorted le (insert le x ys)
-  unfolding Sorted Each insert
+  unfolding Sorted Every insert
   sorted-insert x [] s = (tt, tt)
   sorted-insert x (y ∷ ys) s = go (le x y) refl (sorted-insert x ys (s .1))
     where

@@ -9,9 +9,11 @@ use lib.ListN.{length, take, drop, take-append-drop}
 use lib.Seq.{take-at, drop-at, length-take-le}
 use lib.Ieee.{Float}
 use borrow.Author.Tests.{eqb-true, eq-eqb}
-use Rattle.sorts.specs.Sort.{insert, sort, halves, Each, Sorted, times, In, Selected}
+use Rattle.lists.specs.Lists.{Every, times, In}
+use Rattle.sorts.specs.Sort.{insert, sort, halves, Sorted, Selected}
 use Rattle.sorts.specs.Keys.{goes}
-use Rattle.sorts.proofs.SortLaws.{length-sort, times-sort, times-append}
+use Rattle.lists.proofs.MemberLaws.{times-append}
+use Rattle.sorts.proofs.SortLaws.{length-sort, times-sort}
 use Rattle.sorts.proofs.Order.{goes-total, goes-trans, goes-antisym}
 use Rattle.sorts.proofs.PartLaws.{sort-apart, sort-inside, sorted-sort, leb-total, leb-trans, leb-antisym, ascend-again}
 
@@ -69,14 +71,14 @@ pub ascend-same : (xs ys : List ℕ) → ((i : ℕ) → times i ys ≡ times i x
 ascend-same = sort-same leb leb-total leb-trans leb-antisym
 
 -- ---- a sorted list is parted at each place
-each-drop : (P : ℕ → Type 0) (m : ℕ) (xs : List ℕ) → Each P xs → Each P (drop m xs)
-unfolding Each
+each-drop : (P : ℕ → Type 0) (m : ℕ) (xs : List ℕ) → Every P xs → Every P (drop m xs)
+unfolding Every
 each-drop P zero xs e = e
 each-drop P (suc m) [] e = tt
 each-drop P (suc m) (x ∷ xs) e = each-drop P m xs (e .1)
 
-sorted-parted : (le : ℕ → ℕ → Bool) (m : ℕ) (xs : List ℕ) → Sorted le xs → Each (λ a. Each (λ b. le a b ≡ true) (drop m xs)) (take m xs)
-unfolding Each Sorted
+sorted-parted : (le : ℕ → ℕ → Bool) (m : ℕ) (xs : List ℕ) → Sorted le xs → Every (λ a. Every (λ b. le a b ≡ true) (drop m xs)) (take m xs)
+unfolding Every Sorted
 sorted-parted le zero xs s = tt
 sorted-parted le (suc m) [] s = tt
 sorted-parted le (suc m) (x ∷ xs) s = (each-drop (λ b. le x b ≡ true) m xs (s .0), sorted-parted le m xs (s .1))

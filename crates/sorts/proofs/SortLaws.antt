@@ -6,7 +6,8 @@ use Prim.Native.Nat.{ℕ, suc, _+_}
 use native.Mathlib.Omega.{arith}
 use lib.Dec.{leb, eqb}
 use lib.ListN.{length, take, drop, take-append-drop}
-use Rattle.sorts.specs.Sort.{insert, sort, times}
+use Rattle.lists.specs.Lists.{times}
+use Rattle.sorts.specs.Sort.{insert, sort}
 use Rattle.sorts.specs.Keys.{totalLess, goesBy, goes, keyIn}
 
 -- with no keys the order is by number

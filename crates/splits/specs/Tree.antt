@@ -8,7 +8,7 @@ use lib.Ieee.{Float, binary64, sub, lt}
 use Rattle.boundary.specs.declared.Point.{Point}
 use Rattle.boundary.specs.declared.Bounds.{Bounds}
 use Rattle.boundary.specs.Boxes.{hull, nowhere, stretched}
-use Rattle.boundary.specs.Folds.{run, fold}
+use Rattle.lists.specs.Lists.{run, fold}
 use Rattle.sorts.specs.Keys.{goes}
 use Rattle.sorts.specs.Sort.{sort, halves}
 use Rattle.entries.specs.Entries.{boxCount, boxAt, wideAt, centreOf, pointIn}

@@ -20,7 +20,7 @@ pub fn hull_of(wide: &[f64], list: &[u32]) -> Bounds
     let mut b = boxes::empty_box();
     let mut i = 0;
     while i < list.len() {
-        let k = sorts::at(list, i) as usize;
+        let k = lists::at(list, i) as usize;
         b = boxes::around(b, entries::box_at(wide, k));
         i += 1;
     }
@@ -41,8 +41,8 @@ fn spanned(s: Spans, wide: &[f64], xs: &[f64], ys: &[f64], k: usize) -> Spans
     let hull = s.hull;
     let spread = s.spread;
     let c = Point {
-        x: entries::number_at(xs, k),
-        y: entries::number_at(ys, k),
+        x: lists::number_at(xs, k),
+        y: lists::number_at(ys, k),
     };
     let outer = boxes::around(hull, entries::box_at(wide, k));
     let inner = boxes::stretch(spread, c);
@@ -65,7 +65,7 @@ pub fn spans_of(wide: &[f64], xs: &[f64], ys: &[f64], list: &[u32]) -> Spans
     };
     let mut i = 0;
     while i < list.len() {
-        let k = sorts::at(list, i) as usize;
+        let k = lists::at(list, i) as usize;
         s = spanned(s, wide, xs, ys, k);
         i += 1;
     }

@@ -4,8 +4,8 @@ use mathlib.Core.Bool.{false}
 use Prim.Native.Nat.{_-_, _≤_}
 use denote.Ref.{now}
 use lib.ListN.{length, getD, drop}
-use Rattle.boundary.specs.Folds.{fold, any}
-use Rattle.boundary.proofs.FoldLaws.{fold-drop-end}
+use Rattle.lists.proofs.FoldLaws.{fold-drop-end}
+use Rattle.lists.specs.Lists.{fold, any}
 use Rattle.set.specs.Set.{outlinesOf}
 use Rattle.any.specs.Answers.{containsIn}
 use Rattle.any.proofs.AnyLaws.{step, found-at, missed-at}

@@ -5,10 +5,10 @@ use native.Mathlib.Nat.{sub-zero}
 use borrow.Author.Needs.{needs}
 use lib.Ieee.{Float, binary64, add, ofBits}
 use Rattle.boundary.specs.declared.Edge.{Edge}
-use Rattle.boundary.specs.Folds.{run, fold, total}
+use Rattle.lists.specs.Lists.{run, fold, total}
 use Rattle.boundary.specs.Outline.{count, edgeAt, edges}
 use Rattle.boundary.specs.Length.{edgeLength, lengthOf}
-use Rattle.boundary.proofs.FoldLaws.{fold-run-next, fold-run-end}
+use Rattle.lists.proofs.FoldLaws.{fold-run-next, fold-run-end}
 use Rattle.boundary.proofs.length.Statement.{statement}
 use Rattle.boundary.proofs.length.Tie as tie
 

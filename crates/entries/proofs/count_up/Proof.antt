@@ -1,6 +1,6 @@
 -- `entries::count_up` meets its contract: the numbers so far stand at the front. Assumes nothing.
-use Rattle.entries.proofs.StoreLaws.{sets-more, sets-all}
-use Rattle.boundary.specs.Folds.{run}
+use Rattle.lists.specs.Lists.{run}
+use Rattle.lists.proofs.StoreLaws.{sets-more, sets-all}
 use lib.Seq.{sets}
 use lib.ListN.{length}
 use native.Mathlib.Nat.{le-antisymm}

@@ -2,9 +2,9 @@
 use Rattle.boundary.specs.Boxes.{widenedOf}
 use mathlib.Core.List.{flatMap}
 use Rattle.boundary.specs.declared.Point.{Point}
-use Rattle.entries.proofs.StoreLaws.{sets-more, flat-more}
+use Rattle.lists.proofs.StoreLaws.{sets-more, flat-more}
 use Rattle.entries.specs.Entries.{boxCount, boxNumbers, wideAt, centreOf}
-use Rattle.boundary.specs.Folds.{run}
+use Rattle.lists.specs.Lists.{run}
 use lib.Seq.{sets, length-sets}
 use lib.ListN.{length}
 use native.Mathlib.Nat.{le-antisymm}

@@ -13,7 +13,7 @@ use Rattle.meeting.proofs.visit.Kinds as visit-kinds
 use Rattle.meeting.proofs.+visit.Lts-visit as visit-lts
 use Rattle.meeting.proofs.copy.Reads as copy-reads
 use Rattle.meeting.proofs.misses.Reads as misses-reads
-use Rattle.sorts.proofs.at.Reads as at-reads
+use Rattle.lists.proofs.at.Reads as at-reads
 use Rattle.meeting.proofs.+visit.{statement}
 use Rattle.meeting.proofs.+visit.Tie.{close}
 

@@ -1,7 +1,7 @@
 -- `meeting::copy` meets its contract: the items so far are stored. Assumes nothing.
 use Rattle.meeting.proofs.WalkLaws.{Puts, put-within, no-run, next-item}
 use Rattle.nodes.specs.Layout.{itemAt}
-use Rattle.boundary.specs.Folds.{run}
+use Rattle.lists.specs.Lists.{run}
 use lib.ListN.{length}
 use native.Mathlib.Nat.{le-antisymm}
 use Prim.Native.Nat.{_≤_, _-_}

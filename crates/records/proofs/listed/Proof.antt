@@ -1,7 +1,7 @@
 -- `records::listed` meets its contract. Assumes nothing.
 use Rattle.records.proofs.RecordLaws.{length-blank, front-more-run, front-run}
 use Rattle.records.specs.Records.{nodeIn, blankNodes}
-use Rattle.boundary.specs.Folds.{run}
+use Rattle.lists.specs.Lists.{run}
 use lib.ListN.{length, drop, length-set}
 use mathlib.Core.List.{_++_}
 use Prim.Native.Nat.{_≤_, _-_}

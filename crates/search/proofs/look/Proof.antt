@@ -1,7 +1,7 @@
 -- `search::look` meets its contract: the best so far and the items that are left give the best of all. Assumes nothing.
 use mathlib.Core.Path.{_≡_}
 use Prim.Native.Nat.{_+_, _-_, _≤_}
-use Rattle.boundary.specs.Folds.{run, fold}
+use Rattle.lists.specs.Lists.{run, fold}
 use Rattle.nodes.specs.Layout.{itemAt}
 use Rattle.set.specs.Set.{outlinesOf}
 use Rattle.search.specs.Least.{magnitudeAt}

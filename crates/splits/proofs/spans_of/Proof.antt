@@ -2,8 +2,8 @@
 use Rattle.splits.specs.Tree.{hullOf, spreadOf}
 use Rattle.entries.specs.Entries.{boxAt, pointIn}
 use Rattle.boundary.specs.Boxes.{hull, stretched}
-use Rattle.boundary.proofs.FoldLaws.{fold-drop-next, fold-drop-end}
-use Rattle.boundary.specs.Folds.{fold}
+use Rattle.lists.specs.Lists.{fold}
+use Rattle.lists.proofs.FoldLaws.{fold-drop-next, fold-drop-end}
 use Rattle.sorts.proofs.PartLaws.{sort-sorted}
 use lib.Dec.{leb}
 use lib.ListN.{length, drop}

@@ -1,7 +1,7 @@
 -- `accept::lists::clear_counts` meets its contract: the places so far hold zeros. Assumes nothing.
 use Prim.Native.Nat.{_-_}
 use borrow.Author.Needs.{needs}
-use Rattle.accept.proofs.ClearLaws.{Clearing, clearing-none, clearing-more, clearing-all}
+use Rattle.lists.proofs.FrontLaws.{Clearing, clearing-none, clearing-more, clearing-all}
 use Rattle.accept.proofs.lists.clear_counts.Statement.{statement}
 use Rattle.accept.proofs.lists.clear_counts.Tie as tie
 

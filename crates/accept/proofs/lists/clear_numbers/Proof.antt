@@ -3,7 +3,7 @@ use Prim.Native.Nat.{_-_}
 use borrow.Author.Needs.{needs}
 use lib.Ieee.{ofBits}
 use Rattle.number.specs.Exact.{zeroᶠ}
-use Rattle.accept.proofs.ClearLaws.{Clearing, clearing-none, clearing-more, clearing-all}
+use Rattle.lists.proofs.FrontLaws.{Clearing, clearing-none, clearing-more, clearing-all}
 use Rattle.accept.proofs.lists.clear_numbers.Statement.{statement}
 use Rattle.accept.proofs.lists.clear_numbers.Tie as tie
 

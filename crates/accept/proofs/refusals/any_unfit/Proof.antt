@@ -7,8 +7,8 @@ use denote.Ref.{now}
 use lib.ListN.{length, drop}
 use lib.Ieee.{Float, nan}
 use lib.Ieee.Scale.{finite}
-use Rattle.boundary.specs.Folds.{fold, any}
-use Rattle.boundary.proofs.FoldLaws.{fold-drop-next, fold-drop-end}
+use Rattle.lists.proofs.FoldLaws.{fold-drop-next, fold-drop-end}
+use Rattle.lists.specs.Lists.{fold, any}
 use Rattle.boundary.specs.Boxes.{inField}
 use Rattle.accept.proofs.refusals.any_unfit.Statement.{statement}
 use Rattle.accept.proofs.refusals.any_unfit.Tie as tie

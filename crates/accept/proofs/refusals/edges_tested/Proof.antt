@@ -11,9 +11,9 @@ use denote.Ref.{now}
 use lib.Ieee.{Float, binary64, add, ofBits}
 use Rattle.boundary.specs.declared.Point.{Point}
 use Rattle.boundary.specs.declared.Edge.{Edge}
-use Rattle.boundary.specs.Folds.{run, fold, any, total}
+use Rattle.lists.specs.Lists.{run, fold, any, total}
 use Rattle.boundary.specs.Outline.{count, vertexAt, edgeAt, edges}
-use Rattle.boundary.proofs.FoldLaws.{fold-run-next, fold-run-end, fold-found}
+use Rattle.lists.proofs.FoldLaws.{fold-run-next, fold-run-end, fold-found}
 use Rattle.accept.specs.Area.{crossOf, areaOf}
 use Rattle.accept.specs.Refusals.{samePoint}
 use Rattle.accept.specs.Verdicts.{verdictOf}

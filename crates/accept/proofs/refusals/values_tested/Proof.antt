@@ -6,7 +6,7 @@ use denote.Ref.{now}
 use lib.Ieee.{Float, nan, inf, fin, le, neg}
 use lib.Ieee.Scale.{finite}
 use Rattle.boundary.specs.Boxes.{inField}
-use Rattle.boundary.proofs.FoldLaws.{any-none}
+use Rattle.lists.proofs.FoldLaws.{any-none}
 use Rattle.accept.specs.Refusals.{valuesTested}
 use Rattle.accept.specs.Verdicts.{verdictOf}
 use Rattle.accept.proofs.refusals.values_tested.Statement.{statement}

@@ -7,12 +7,12 @@ use borrow.Author.Tests.{not-true, not-false}
 use lib.Dec.{T}
 use lib.Ieee.{Float, binary64, isNan, ofBits, add, sub, mul, div, lt, le, eq}
 use lib.Ieee.Bits.{is-true}
-use Rattle.number.specs.Exact.{zeroᶠ}
+use Rattle.number.specs.Exact.{zeroᶠ, one}
 use Rattle.signs.specs.Signs.{clampOf}
 use Rattle.number.proofs.OrderLaws.{not-below, below-le, level-ge, le-not-below, le-level, right-not-nan, le-through}
 use Rattle.boundary.specs.declared.Point.{Point}
 use Rattle.boundary.specs.declared.Edge.{Edge}
-use Rattle.boundary.specs.Line.{one, wayOf, squaresOf, paramOf, alongOf, aheadOf, footOf}
+use Rattle.boundary.specs.Line.{wayOf, squaresOf, paramOf, alongOf, aheadOf, footOf}
 use Rattle.boundary.proofs.line.foot.Statement.{statement}
 use Rattle.boundary.proofs.line.foot.Tie as tie
 

@@ -2,10 +2,10 @@
 use native.Mathlib.Nat.{le-antisymm}
 use native.Mathlib.Omega.{arith}
 use Prim.Native.Nat.{_-_, _+_, _*_, _≤_}
-use Rattle.boundary.specs.Folds.{run, fold}
+use Rattle.lists.specs.Lists.{run, fold}
 use Rattle.clip.specs.Passes.{Path, stepOf}
 use Rattle.clip.specs.Lent.{linesFrom, Beside, Tracks}
-use Rattle.clip.proofs.Runs.{fold-run-last}
+use Rattle.lists.proofs.FoldLaws.{fold-run-last}
 use Rattle.clip.proofs.LentLaws.{unchanged, then, line-in-kept}
 use borrow.Author.Needs.{needs}
 use Rattle.clip.proofs.path.run.Statement.{statement}

@@ -5,7 +5,7 @@ use native.Mathlib.Nat.{le-refl}
 use native.Mathlib.Omega.{arith}
 use lib.ListN.{length}
 use Rattle.number.specs.Exact.{zeroᶠ}
-use Rattle.accept.proofs.ClearLaws.{zeros-past}
+use Rattle.lists.proofs.FrontLaws.{zeros-past}
 use Rattle.clip.proofs.LentLaws.{rest-kept}
 use Rattle.fill.specs.Fill.{fillOf}
 use Rattle.fill.specs.Answers.{halfOf, filled}

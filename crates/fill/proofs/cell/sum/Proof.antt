@@ -3,8 +3,8 @@ use mathlib.Core.Path.{_≡_, sym, _∙_}
 use Prim.Native.Nat.{_≤_, _-_}
 use native.Mathlib.Nat.{sub-zero}
 use lib.Ieee.{binary64, add, ofBits}
-use Rattle.boundary.specs.Folds.{fold, total}
-use Rattle.boundary.proofs.FoldLaws.{fold-run-next, fold-run-end}
+use Rattle.lists.proofs.FoldLaws.{fold-run-next, fold-run-end}
+use Rattle.lists.specs.Lists.{fold, total}
 use Rattle.clip.specs.Lent.{linesFrom}
 use Rattle.fill.specs.Fill.{xdyOf}
 use borrow.Author.Needs.{needs}

@@ -4,9 +4,9 @@ use Prim.Native.Nat.{_≤_, _-_, _*_, _+_}
 use native.Mathlib.Nat.{le-antisymm}
 use native.Mathlib.Numerals.{add-one}
 use native.Mathlib.Omega.{arith}
-use Rattle.boundary.specs.Folds.{run}
+use Rattle.lists.specs.Lists.{run}
 use Rattle.boundary.specs.Outline.{count, edgeAt, edges}
-use Rattle.boundary.proofs.RunLaws.{run-last}
+use Rattle.lists.proofs.RunLaws.{run-last}
 use Rattle.clip.specs.Lent.{Beside, Holds}
 use Rattle.clip.proofs.LentLaws.{unchanged, then}
 use borrow.Author.Needs.{needs}

@@ -3,9 +3,9 @@ use mathlib.Core.Path.{_≡_, sym, _∙_}
 use Prim.Native.Nat.{_≤_, _-_}
 use native.Mathlib.Nat.{sub-zero}
 use borrow.Author.Needs.{needs}
-use Rattle.boundary.specs.Folds.{run, fold}
+use Rattle.lists.specs.Lists.{run, fold}
 use Rattle.boundary.specs.Outline.{count, vertexAt, vertices}
-use Rattle.boundary.proofs.FoldLaws.{fold-run-next, fold-run-end}
+use Rattle.lists.proofs.FoldLaws.{fold-run-next, fold-run-end}
 use Rattle.boundary.specs.Boxes.{stretched}
 use Rattle.geometry.specs.Polygon.{boundsOf}
 use Rattle.geometry.proofs.polygon.box_of.Statement.{statement}

@@ -10,9 +10,9 @@ use denote.Ref.{now}
 use lib.Ieee.{unlike, lt}
 use Rattle.boundary.specs.declared.Point.{Point}
 use Rattle.boundary.specs.declared.Edge.{Edge}
-use Rattle.boundary.specs.Folds.{run, fold, oddly}
+use Rattle.lists.specs.Lists.{run, fold, oddly}
 use Rattle.boundary.specs.Outline.{count, vertexAt, edges}
-use Rattle.boundary.proofs.FoldLaws.{fold-run-next, fold-run-end}
+use Rattle.lists.proofs.FoldLaws.{fold-run-next, fold-run-end}
 use Rattle.geometry.specs.Polygon.{crossesOf, containsOf, before, edgeInto, containsRust}
 use Rattle.geometry.proofs.ContainsLaws.{contains-rust}
 use Rattle.geometry.proofs.polygon.holds.Statement.{statement}

@@ -6,9 +6,9 @@ use native.Mathlib.Nat.{sub-zero}
 use borrow.Author.Needs.{needs}
 use Rattle.boundary.specs.declared.Point.{Point}
 use Rattle.boundary.specs.declared.Edge.{Edge}
-use Rattle.boundary.specs.Folds.{run, fold, any}
+use Rattle.lists.specs.Lists.{run, fold, any}
 use Rattle.boundary.specs.Outline.{count, edgeAt, edges}
-use Rattle.boundary.proofs.FoldLaws.{fold-run-next, fold-run-end}
+use Rattle.lists.proofs.FoldLaws.{fold-run-next, fold-run-end}
 use Rattle.geometry.specs.Polygon.{onEdge}
 use Rattle.geometry.proofs.polygon.on_boundary.Statement.{statement}
 use Rattle.geometry.proofs.polygon.on_boundary.Tie as tie

@@ -6,7 +6,7 @@ use native.Mathlib.Nat.{le-antisymm}
 use borrow.Author.Needs.{needs}
 use denote.Ref.{now}
 use lib.ListN.{length, drop, length-set}
-use Rattle.boundary.specs.Folds.{run}
+use Rattle.lists.specs.Lists.{run}
 use Rattle.boundary.specs.Outline.{count}
 use Rattle.geometry.specs.Making.{numbers}
 use Rattle.geometry.proofs.WriteLaws.{pointAt, write-more, write-all}

@@ -1,8 +1,8 @@
 -- `index::refusals::any_unfit` meets its contract: what was found so far and the boxes that are left give the answer. Assumes nothing.
 use Rattle.boundary.specs.Boxes.{boxFits}
 use Rattle.entries.specs.Entries.{boxCount, boxAt, boxesOf}
-use Rattle.boundary.proofs.FoldLaws.{fold-run-next, fold-run-end}
-use Rattle.boundary.specs.Folds.{run, fold, any}
+use Rattle.lists.specs.Lists.{run, fold, any}
+use Rattle.lists.proofs.FoldLaws.{fold-run-next, fold-run-end}
 use Rattle.boundary.specs.declared.Bounds.{Bounds}
 use native.Mathlib.Nat.{sub-zero}
 use Prim.Native.Nat.{_≤_, _-_}

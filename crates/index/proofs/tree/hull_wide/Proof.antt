@@ -3,8 +3,8 @@ use Rattle.entries.specs.Entries.{boxCount, wideAt}
 use Rattle.boundary.specs.Boxes.{hull}
 use Rattle.splits.specs.Tree.{hullOf}
 use Rattle.index.proofs.GrowLaws.{run-ascends}
-use Rattle.boundary.proofs.FoldLaws.{fold-run-next, fold-run-end}
-use Rattle.boundary.specs.Folds.{run, fold}
+use Rattle.lists.specs.Lists.{run, fold}
+use Rattle.lists.proofs.FoldLaws.{fold-run-next, fold-run-end}
 use Rattle.sorts.proofs.PartLaws.{sort-sorted}
 use lib.Dec.{leb}
 use native.Mathlib.Nat.{sub-zero}

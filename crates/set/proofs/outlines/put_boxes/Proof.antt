@@ -8,11 +8,11 @@ use denote.Ref.{now}
 use lib.ListN.{length}
 use lib.Seq.{sets, length-sets}
 use lib.Ieee.{Float}
-use Rattle.boundary.specs.Folds.{run}
+use Rattle.lists.specs.Lists.{run}
 use Rattle.boundary.specs.Outline.{vertices}
 use Rattle.geometry.specs.Polygon.{boundsOf}
 use Rattle.entries.specs.Entries.{boxNumbers}
-use Rattle.entries.proofs.StoreLaws.{flat-more}
+use Rattle.lists.proofs.StoreLaws.{flat-more}
 use Rattle.set.specs.Set.{startOf, outlineAt, outlinesOf, setBoxes}
 use Rattle.set.proofs.SetLaws.{start-next, part-within, part-is}
 use borrow.Author.Needs.{needs}

@@ -6,8 +6,8 @@ use native.Mathlib.Omega.{arith}
 use denote.Ref.{now}
 use lib.ListN.{length}
 use lib.Seq.{sets, length-sets}
-use Rattle.boundary.specs.Folds.{run}
-use Rattle.entries.proofs.StoreLaws.{sets-more}
+use Rattle.lists.proofs.StoreLaws.{sets-more}
+use Rattle.lists.specs.Lists.{run}
 use Rattle.set.specs.Set.{startOf}
 use Rattle.set.proofs.SetLaws.{start-next, start-within}
 use borrow.Author.Needs.{needs}

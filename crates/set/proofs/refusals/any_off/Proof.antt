@@ -6,8 +6,8 @@ use borrow.Author.Needs.{needs}
 use denote.Ref.{now}
 use lib.Dec.{ltb}
 use lib.ListN.{length, drop}
-use Rattle.boundary.specs.Folds.{fold, any}
-use Rattle.boundary.proofs.FoldLaws.{fold-drop-next, fold-drop-end}
+use Rattle.lists.proofs.FoldLaws.{fold-drop-next, fold-drop-end}
+use Rattle.lists.specs.Lists.{fold, any}
 use Rattle.set.proofs.refusals.any_off.Statement.{statement}
 use Rattle.set.proofs.refusals.any_off.Tie as tie
 

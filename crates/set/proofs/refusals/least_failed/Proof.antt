@@ -8,8 +8,8 @@ use borrow.Author.Needs.{needs}
 use denote.Ref.{now}
 use lib.ListN.{length}
 use lib.Ieee.{Float}
-use Rattle.boundary.specs.Folds.{run, fold}
-use Rattle.boundary.proofs.FoldLaws.{fold-run-next, fold-run-end}
+use Rattle.lists.proofs.FoldLaws.{fold-run-next, fold-run-end}
+use Rattle.lists.specs.Lists.{run, fold}
 use Rattle.set.specs.Set.{startOf, outlineAt, outlinesOf}
 use Rattle.set.specs.OnePass.{firstFailed, leastFailed}
 use Rattle.set.proofs.SetLaws.{start-next, part-within, part-is}
