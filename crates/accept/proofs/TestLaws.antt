@@ -16,7 +16,7 @@ use Rattle.accept.specs.declared.Refusal.{Refusal}
 use Rattle.accept.specs.declared.Refusal.the-variants.{OddCount, TooFew, TooMany, NotFinite, OutsideField, EqualNeighbours, ZeroArea, NegativeArea, BadPoint}
 use Rattle.accept.specs.declared.Test.{Test}
 use Rattle.accept.specs.declared.Test.the-variants.{Passed, Failed}
-use Rattle.accept.specs.Refusals.{_refusing_when_, given, notFinite, outsideField, equalNeighbours, zeroArea, negativeArea, countTested, valuesTested, shapeTested, outlineTested, pointTested, cellTested, roomTested}
+use Rattle.accept.specs.Refusals.{_refusing_when_, given, notFinite, outsideField, equalNeighbours, zeroArea, negativeArea, countTested, valuesTested, shapeTested, outlineTested}
 
 -- ---- one test
 abbrev failed : Test → Bool
@@ -117,28 +117,3 @@ accepted-field v e =
     let s = shape v (accepted v e) in
     let three = ltb-false (count v) 3 (s .enough) in
     (s .all-in-field, omega arith)
-
--- ---- until every crate is moved
-pub passes : (b : Bool) (r : Refusal) (t : Test) → cond b (Failed r) t ≡ Passed → (b ≡ false) × (t ≡ Passed)
-passes true r t e = absurd (never e)
-passes false r t e = (refl, e)
-
-pub passes-else : (b : Bool) (r : Refusal) (t : Test) → cond b t (Failed r) ≡ Passed → (b ≡ true) × (t ≡ Passed)
-passes-else true r t e = (refl, e)
-passes-else false r t e = absurd (never e)
-
-pub point-passed : (p : Point) (t : Test) → pointTested p t ≡ Passed → (pointInField p ≡ true) × (t ≡ Passed)
-unfolding pointTested
-point-passed p Passed e = passes-else (pointInField p) BadPoint Passed e
-point-passed p (Failed r) e = absurd (never e)
-
-pub cell-passed : (c : Bounds) (t : Test) → cellTested c t ≡ Passed → t ≡ Passed
-unfolding cellTested
-cell-passed c Passed e = refl
-cell-passed c (Failed r) e = absurd (never e)
-
-pub room-passed : (short : Bool) (t : Test) → roomTested short t ≡ Passed → (short ≡ false) × (t ≡ Passed)
-unfolding roomTested
-room-passed true Passed e = absurd (never e)
-room-passed false Passed e = (refl, refl)
-room-passed short (Failed r) e = absurd (never e)

@@ -76,23 +76,3 @@ refusedWith lists r = record { answer = Refused r; lent = lists }
 -- the answer's fields, and the same lists
 abbrev pub inFields : {A F B : Type 0} → (A → F) → Outcome A B → Outcome F B
 inFields fields o = record { answer = fields (o .answer); lent = o .lent }
-
--- ---- until every crate is moved
-abbrev pub numberOf : Answer → ℕ
-numberOf (Refused r) = number r
-numberOf (Told n) = 0
-numberOf (Measure x) = 0
-numberOf (Box b) = 0
-numberOf (Away d) = 0
-
-abbrev pub toldOf : Answer → ℕ
-toldOf (Refused r) = 0
-toldOf (Told n) = n
-toldOf (Measure x) = 0
-toldOf (Box b) = 0
-toldOf (Away d) = 0
-
--- the answer a where the tests are passed; otherwise the refusal
-unfoldable pub answerFor : Test → Answer → Answer
-answerFor Passed a = a
-answerFor (Failed r) a = Refused r

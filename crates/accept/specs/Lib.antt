@@ -8,5 +8,3 @@ pub mod Refusals
 pub mod Verdicts
 -- What an operation answers, its fields, and all that a call leaves.
 pub mod Answers
--- Lent lists, as a call leaves them.
-pub mod Lists

@@ -100,26 +100,3 @@ shapeTested v = given (countTested v) (valuesTested v) Failed
 unfoldable pub outlineTested : List Float → Test
 unfolding _refusing_when_ shapeTested lt edges areaOf
 outlineTested v = shapeTested v refusing NegativeArea when negativeArea v
-
--- ---- until every crate is moved
--- 9, after t of those before it
-unfoldable pub signTested : List Float → Test → Test
-unfolding _refusing_when_ lt edges areaOf
-signTested v t = t refusing NegativeArea when negativeArea v
-
--- 10: the point is outside the field or not finite
-unfoldable pub pointTested : Point → Test → Test
-unfolding neg le
-pointTested p Passed = cond (pointInField p) Passed (Failed BadPoint)
-pointTested p (Failed r) = Failed r
-
--- 11: the cell has a number not finite or outside the field, or a minimum above its maximum
-unfoldable pub cellTested : Bounds → Test → Test
-unfolding boxFits
-cellTested c Passed = cond (boxFits c) Passed (Failed BadBox)
-cellTested c (Failed r) = Failed r
-
--- 13: a lent buffer is shorter than its stated size
-unfoldable pub roomTested : Bool → Test → Test
-roomTested short Passed = cond short (Failed ShortBuffer) Passed
-roomTested short (Failed r) = Failed r

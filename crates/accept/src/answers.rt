@@ -1,7 +1,7 @@
 // What an answer puts into the fields of a call: a refusal gives its number, and
 // zeros.
 ghost use mathlib.Core.Path.{_≡_};
-ghost use Rattle.accept.specs.Answers.{noCount, countFields, noMeasure, measureFields, noBox, boxFields, noDistance, distanceFields, numberOf, toldOf};
+ghost use Rattle.accept.specs.Answers.{noCount, countFields, noMeasure, measureFields, noBox, boxFields, noDistance, distanceFields};
 use crate::Answer;
 use crate::BoxFields;
 use crate::CountFields;
@@ -105,30 +105,5 @@ pub fn distance_fields(a: Answer) -> DistanceFields
             number: 0,
             distance: d,
         },
-    }
-}
-
-// Until every crate is moved.
-pub fn number_of(a: Answer) -> u32
-    ensures { λ r. ⌜ r ≡ numberOf a ⌝ }
-{
-    match a {
-        Answer::Refused(r) => refusals::number_of(r),
-        Answer::Told(_) => 0,
-        Answer::Measure(_) => 0,
-        Answer::Box(_) => 0,
-        Answer::Away(_) => 0,
-    }
-}
-
-pub fn told_of(a: Answer) -> u32
-    ensures { λ r. ⌜ r ≡ toldOf a ⌝ }
-{
-    match a {
-        Answer::Refused(_) => 0,
-        Answer::Told(n) => n,
-        Answer::Measure(_) => 0,
-        Answer::Box(_) => 0,
-        Answer::Away(_) => 0,
     }
 }

@@ -8,10 +8,11 @@ ghost use lib.Ieee.Scale.{finite};
 ghost use Rattle.boundary.specs.Boxes.{inField, pointInField, boxFits};
 ghost use Rattle.lists.specs.Lists.{any};
 ghost use Rattle.boundary.specs.Outline.{edges};
+ghost use Rattle.accept.specs.declared.Refusal.the-variants.{NegativeArea};
 ghost use Rattle.accept.specs.declared.Test.{Test};
 ghost use Rattle.accept.specs.Area.{crossOf, two, areaOf};
 ghost use Rattle.accept.specs.declared.Verdict.the-variants.{Area, TurnedAway};
-ghost use Rattle.accept.specs.Refusals.{_refusing_when_, given, number, samePoint, equalNeighbours, valuesTested, shapeTested, outlineTested, signTested, pointTested, cellTested, roomTested};
+ghost use Rattle.accept.specs.Refusals.{_refusing_when_, given, number, samePoint, negativeArea, equalNeighbours, valuesTested, shapeTested, outlineTested};
 ghost use Rattle.accept.specs.Verdicts.{edgesVerdict, testOf};
 use crate::Refusal;
 use crate::Test;
@@ -183,7 +184,7 @@ pub fn shape_tested(v: &[f64]) -> Verdict
 // Test 9, after those that handed t over.
 pub fn sign_tested(t: Verdict) -> Verdict
     ensures { λ r. ⌜ ((v : List Float) (s : Test) → t ≡ given s (Area (areaOf (edges v))) TurnedAway
-        → r ≡ given (signTested v s) (Area (areaOf (edges v))) TurnedAway) ⌝ }
+        → r ≡ given (s refusing NegativeArea when negativeArea v) (Area (areaOf (edges v))) TurnedAway) ⌝ }
 {
     match t {
         Verdict::Area(a) => {
@@ -228,54 +229,5 @@ pub fn refusing(t: Test, r: Refusal, fails: bool) -> Test
     match t {
         Test::Passed => { if fails { Test::Failed(r) } else { Test::Passed } }
         Test::Failed(q) => Test::Failed(q),
-    }
-}
-
-// Until every crate is moved.
-// Test 10, after those of the outline or of the set.
-pub fn point_tested(p: Point, t: Test) -> Test
-    ensures { λ r. ⌜ r ≡ pointTested p t ⌝ }
-{
-    match t {
-        Test::Passed => {
-            if in_field(p.x) & in_field(p.y) {
-                Test::Passed
-            } else {
-                Test::Failed(Refusal::BadPoint)
-            }
-        }
-        Test::Failed(r) => Test::Failed(r),
-    }
-}
-
-// Test 11 of a cell, after those of the outline or of the boxes.
-pub fn cell_tested(c: Bounds, t: Test) -> Test
-    ensures { λ r. ⌜ r ≡ cellTested c t ⌝ }
-{
-    match t {
-        Test::Passed => {
-            if box_fits(c) {
-                Test::Passed
-            } else {
-                Test::Failed(Refusal::BadBox)
-            }
-        }
-        Test::Failed(r) => Test::Failed(r),
-    }
-}
-
-// Test 13: whether a lent buffer is too short, after all before it.
-pub fn room_tested(short: bool, t: Test) -> Test
-    ensures { λ r. ⌜ r ≡ roomTested short t ⌝ }
-{
-    match t {
-        Test::Passed => {
-            if short {
-                Test::Failed(Refusal::ShortBuffer)
-            } else {
-                Test::Passed
-            }
-        }
-        Test::Failed(r) => Test::Failed(r),
     }
 }

@@ -1,5 +1,5 @@
--- What `any_at` lists over a set that passes the tests, and its answer. Assumes nothing.
-use mathlib.Core.Path.{_≡_, refl, ap, _∙_}
+-- What `any_at` lists over a set that passes the tests, and what it leaves. Assumes nothing.
+use mathlib.Core.Path.{_≡_, refl, ap, ap₂, _∙_}
 use mathlib.Core.Bool.{Bool}
 use mathlib.Core.List.{List}
 use Prim.Native.Nat.{ℕ, _-_, _*_, _≤_}
@@ -9,58 +9,64 @@ use lib.ListN.{length, take, drop}
 use lib.Seq.{sets, take-at}
 use lib.Ieee.{Float}
 use Rattle.boundary.specs.declared.Point.{Point}
-use Rattle.lists.specs.Lists.{any, atFront}
-use Rattle.boundary.specs.Outline.{edges}
-use Rattle.accept.specs.declared.Test.the-variants.{Passed}
-use Rattle.geometry.specs.Polygon.{containsOf}
-use Rattle.splits.specs.Tree.{indexOf}
-use Rattle.index.specs.Answers.{boxesTested, Accepted}
-use Rattle.index.proofs.GrowLaws.{front-of, length-index-items}
-use Rattle.meeting.specs.Meeting.{meetingOf}
-use Rattle.meeting.specs.Answers.{Listed}
-use Rattle.meeting.proofs.MeetingLaws.{length-meeting}
-use Rattle.set.specs.Set.{outlineAt, setBoxes}
-use Rattle.set.specs.Answers.{Ready}
-use Rattle.set.proofs.SetLaws.{boxes-length, boxes-tested}
 use Rattle.boundary.specs.Boxes.{spot}
-use Rattle.any.specs.Answers.{listedAt, anyAt, Answered}
+use Rattle.lists.specs.Lists.{any, atFront}
+use Rattle.accept.specs.declared.Test.the-variants.{Passed}
+use Rattle.accept.specs.Answers.{Outcome}
+use Rattle.splits.specs.Tree.{indexOf}
+use Rattle.index.specs.Buffer.{IndexBuffer}
+use Rattle.index.specs.Answers.{boxesTested, Accepted}
+use Rattle.index.proofs.GrowLaws.{length-index-items}
+use Rattle.meeting.specs.Meeting.{meetingOf}
+use Rattle.meeting.specs.Answers.{MeetingLent, listing}
+use Rattle.meeting.proofs.MeetingLaws.{length-meeting}
+use Rattle.set.specs.Set.{Outline, outlinesOf, setBoxes}
+use Rattle.set.specs.Answers.{worked, Ready}
+use Rattle.set.proofs.SetLaws.{boxes-tested}
+use Rattle.set.proofs.AskLaws.{boxes-size, boxes-front, boxes-accepted}
+use Rattle.any.specs.Answers.{listedAt, containsIn, anyAt}
 
-module _ (v : List Float) (cs : List ℕ) (p : Point) (c l n : ℕ) (ready : Ready v cs c l n) (B₀ B : List Float) (room : 4 * length cs ≤ length B₀) (e : B ≡ sets B₀ 0 (setBoxes v cs)) where
+module _ (v : List Float) (cs : List ℕ) (p : Point) (B : IndexBuffer) (ready : Ready v cs B) (X₀ X : List Float) (room : 4 * length cs ≤ length X₀) (e : X ≡ sets X₀ 0 (setBoxes (outlinesOf v cs))) where
+  abbrev os : List Outline
+  os = outlinesOf v cs
+
   -- the front that is lent for the boxes
   abbrev front : List Float
-  front = take (4 * length cs - 0) (drop 0 B)
+  front = take (4 * length cs - 0) (drop 0 X)
 
-  front-is : front ≡ setBoxes v cs
-  front-is = let s = ready .fit .size in front-of B₀ B (setBoxes v cs) (4 * length cs) e (boxes-length v cs) (omega arith)
+  front-is : front ≡ setBoxes os
+  front-is = boxes-front v cs X₀ X room e
 
-  pub ready-listed : Accepted front c l n × (boxesTested front ≡ Passed)
-  ready-listed =
-      let b = boxes-length v cs in
-      let s = ready .fit .size in
-      let t = boxes-tested v cs (ready .fit) in
-      let a : Accepted (setBoxes v cs) c l n = record { size = omega arith; whole = omega arith; corners = ready .corners; links = ready .links; items = ready .items } in
-      (rw front-is a, rw front-is t)
+  pub ready-listed : Accepted front (length (B .corners)) (length (B .links)) (length (B .items)) × (boxesTested front ≡ Passed)
+  ready-listed = rw front-is (boxes-accepted v cs B ready, boxes-tested os (ready .fitting))
 
-  module _ (C : List Float) (L I S : List ℕ) (r : ℕ) (C′ : List Float) (L′ I′ S′ : List ℕ) (listed : Listed front (spot p) C L I S r C′ L′ I′ S′) where
+  module _ (S : List ℕ) (r : ℕ) (B′ : IndexBuffer) (S′ : List ℕ) (listed : record { answer = r; lent = record { buffer = B′; list = S′ } } ≡ listing front (spot p) B S) where
+    set-listed : record { answer = r; lent = record { buffer = B′; list = S′ } } ≡ listing (setBoxes os) (spot p) B S
+    set-listed = rw front-is at listed
+
+    count-is : r ≡ length (listedAt os p)
+    unfolding listing listedAt
+    count-is = ap (λ (o : Outcome ℕ MeetingLent). o .answer) set-listed
+
     pub listed-count : r ≤ 1024
+    unfolding listedAt
     listed-count =
-        let b = boxes-length v cs in
+        let b = boxes-size v cs in
         let s = ready .fit .size in
-        let f = ap length front-is in
-        let k = listed .count in
-        let m = length-meeting (spot p) (indexOf front) in
-        let i = length-index-items front in
+        let k = count-is in
+        let m = length-meeting (spot p) (indexOf (setBoxes os)) in
+        let i = length-index-items (setBoxes os) in
         omega arith
 
-    list-is : take (r - 0) (drop 0 S′) ≡ listedAt v cs p
-    unfolding listedAt atFront
+    list-is : take (r - 0) (drop 0 S′) ≡ listedAt os p
+    unfolding listing listedAt atFront
     list-is =
-        rw (sub-zero r, listed .list, listed .count, take-at (meetingOf (spot p) (indexOf front)) (drop (length (meetingOf (spot p) (indexOf front))) S) (length (meetingOf (spot p) (indexOf front))) refl)
-        (ap (λ (b : List Float). meetingOf (spot p) (indexOf b)) front-is)
+        let l = ap (λ (o : Outcome ℕ MeetingLent). o .lent .list) set-listed in
+        let M = meetingOf (spot p) (indexOf (setBoxes os)) in
+        rw (sub-zero r, l, count-is) (take-at M (drop (length M) S) (length M) refl)
 
-    pub answered-of : (a : Bool) → a ≡ any (λ k. containsOf (edges (outlineAt v cs k)) p) (take (r - 0) (drop 0 S′)) → Answered v cs p C L I a C′ L′ I′
-    unfolding anyAt
-    answered-of a h = record {
-      answer = h ∙ ap (any (λ k. containsOf (edges (outlineAt v cs k)) p)) list-is;
-      cleared = listed .cleared;
-    }
+    pub answered-of : (a : Bool) → a ≡ any (containsIn os p) (take (r - 0) (drop 0 S′)) → record { answer = a; lent = B′ } ≡ worked (anyAt os p) B
+    unfolding listing anyAt
+    answered-of a h =
+        ap₂ (λ (b : Bool) (C : IndexBuffer). record { answer = b; lent = C }) (h ∙ ap (any (containsIn os p)) list-is)
+        (ap (λ (o : Outcome ℕ MeetingLent). o .lent .buffer) set-listed)

@@ -2,23 +2,22 @@
 use mathlib.Core.Path.{_≡_, refl, sym, ap, _∙_}
 use mathlib.Core.Bool.{Bool, true, false, cond, _||_, true≢false}
 use mathlib.Core.List.{List, [], _∷_}
-use Prim.Native.Nat.{ℕ, _+_, _<_}
+use Prim.Native.Nat.{ℕ, _+_, _≤_, _<_}
 use native.Mathlib.Omega.{arith}
 use borrow.Author.Tests.{eqb-true, ltb-true, ltb-false}
-use lib.Dec.{T, eqb, ltb}
-use lib.ListN.{length, getD}
-use lib.Ieee.{Float, nan, binary64, fits}
+use lib.Dec.{eqb, ltb}
+use lib.ListN.{length}
 use Rattle.boundary.specs.declared.Point.{Point}
-use Rattle.lists.specs.Lists.{fold, any, times, In}
+use Rattle.lists.specs.Lists.{run, fold, any, oddly, times, In}
 use Rattle.boundary.specs.Outline.{edges}
 use Rattle.geometry.specs.Polygon.{containsOf}
 use Rattle.meeting.specs.Meeting.{apart}
 use Rattle.meeting.proofs.Theorems.{meeting-lists}
-use Rattle.set.specs.Set.{outlineAt, setBoxes, Fit}
+use Rattle.set.specs.Set.{Outline, setBox, setBoxes, Fitting, DoubleSet}
 use Rattle.lists.proofs.FoldLaws.{any-from}
-use Rattle.set.proofs.SetLaws.{setBox, contains-past, boxes-length, box-at-set, boxes-tested, set-box-field}
+use Rattle.set.proofs.SetLaws.{outline-past, boxes-length, box-at-set, boxes-tested, box-field}
 use Rattle.boundary.specs.Boxes.{spot}
-use Rattle.any.specs.Answers.{listedAt, anyAt}
+use Rattle.any.specs.Answers.{listedAt, containsIn, anyAt}
 
 module _ (f : ℕ → Bool) where
   -- a member passes
@@ -45,22 +44,28 @@ module _ (f : ℕ → Bool) where
       go true z h rest = (y, z)
       go false z h rest = rest h
 
-module _ (v : List Float) (cs : List ℕ) (p : Point) where
-  -- YES where an outline contains the point and its box has it: v's numbers are `f64`s
-  pub any-at-yes : Fit v cs → ((i : ℕ) → i < length v → T (fits binary64 (getD v i nan))) → (k : ℕ) → k < length cs → apart (setBox v cs k) (spot p) ≡ false → containsOf (edges (outlineAt v cs k)) p ≡ true → anyAt v cs p ≡ true
+module _ (os : List Outline) (p : Point) where
+  -- YES where an outline contains the point and its box has it: the outlines' numbers are `f64`s
+  pub any-at-yes : Fitting os → DoubleSet os → (k : ℕ) → k < length os → apart (setBox os k) (spot p) ≡ false → containsIn os p k ≡ true → anyAt os p ≡ true
   unfolding anyAt listedAt
   any-at-yes fit held k l meets e =
-      let n = boxes-length v cs in
-      let b = box-at-set v cs k l in
-      any-in (λ j. containsOf (edges (outlineAt v cs j)) p) k (listedAt v cs p) (meeting-lists (setBoxes v cs) (spot p) k (boxes-tested v cs fit) (omega arith) (rw b (set-box-field v cs fit held k l)) (rw b meets)) e
+      let n = boxes-length os in
+      let b = box-at-set os k l in
+      any-in (containsIn os p) k (listedAt os p)
+      (meeting-lists (setBoxes os) (spot p) k (boxes-tested os fit) (omega arith) (rw b (box-field os fit held k l)) (rw b meets)) e
+
+  -- past the last outline there is none
+  contains-past : (k : ℕ) → length os ≤ k → false ≡ containsIn os p k
+  unfolding containsOf oddly fold edges run
+  contains-past k l = rw (outline-past os k l)
 
   -- YES only where an outline of the set contains it
-  pub any-at-some : anyAt v cs p ≡ true → (k : ℕ) × (k < length cs) × (containsOf (edges (outlineAt v cs k)) p ≡ true)
+  pub any-at-some : anyAt os p ≡ true → (k : ℕ) × (k < length os) × (containsIn os p k ≡ true)
   unfolding anyAt
   any-at-some e =
-      let s = any-some (λ j. containsOf (edges (outlineAt v cs j)) p) (listedAt v cs p) e in
-      go (s .0) (s .1) (ltb (s .0) (length cs)) refl
+      let s = any-some (containsIn os p) (listedAt os p) e in
+      go (s .0) (s .1) (ltb (s .0) (length os)) refl
     where
-      go : (k : ℕ) → containsOf (edges (outlineAt v cs k)) p ≡ true → (b : Bool) → ltb k (length cs) ≡ b → (k : ℕ) × (k < length cs) × (containsOf (edges (outlineAt v cs k)) p ≡ true)
-      go k h true b = (k, ltb-true k (length cs) b, h)
-      go k h false b = absurd (true≢false (sym h ∙ sym (contains-past v cs k p (ltb-false k (length cs) b))))
+      go : (k : ℕ) → containsIn os p k ≡ true → (b : Bool) → ltb k (length os) ≡ b → (k : ℕ) × (k < length os) × (containsIn os p k ≡ true)
+      go k h true b = (k, ltb-true k (length os) b, h)
+      go k h false b = absurd (true≢false (sym h ∙ sym (contains-past k (ltb-false k (length os) b))))

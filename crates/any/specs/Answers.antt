@@ -1,40 +1,43 @@
--- What `any_at` answers. Its tests, and what its working buffers hold then, are those of every query over a set. Definitions only.
-use mathlib.Core.Path.{_≡_}
+-- What `any_at` answers, and all that it leaves. Definitions only.
 use mathlib.Core.Bool.{Bool, cond}
 use mathlib.Core.List.{List}
 use Prim.Native.Nat.{ℕ}
 use lib.Ieee.{Float}
 use Rattle.boundary.specs.declared.Point.{Point}
 use Rattle.boundary.specs.Boxes.{spot}
-use Rattle.lists.specs.Lists.{any}
+use Rattle.boundary.specs.Folds as folds
 use Rattle.boundary.specs.Outline.{edges}
 use Rattle.accept.specs.declared.Answer.{Answer}
-use Rattle.accept.specs.declared.Answer.the-variants.{Told}
-use Rattle.accept.specs.Answers.{answerFor}
+use Rattle.accept.specs.declared.CountFields.{CountFields}
+use Rattle.accept.specs.declared.Answer.the-variants.{Refused, Told}
+use Rattle.accept.specs.Answers.{Outcome, countFields, inFields}
 use Rattle.geometry.specs.Polygon.{containsOf}
 use Rattle.splits.specs.Tree.{indexOf}
-use Rattle.index.specs.Answers.{Cleared}
+use Rattle.index.specs.Buffer.{IndexBuffer}
 use Rattle.meeting.specs.Meeting.{meetingOf}
-use Rattle.set.specs.Set.{outlineAt, setBoxes}
-use Rattle.set.specs.Tests.{setQueryTested}
-use Rattle.set.specs.Answers.{queryTested}
+use Rattle.set.specs.Set.{Outline, outlinesOf, outlineIn, setBoxes}
+use Rattle.set.specs.Answers.{queryOutcome}
 
+-- ---- the answer
 -- the outlines that `meeting` lists for the point, as a cell
-unfoldable pub listedAt : List Float → List ℕ → Point → List ℕ
+unfoldable pub listedAt : List Outline → Point → List ℕ
 unfolding setBoxes indexOf meetingOf
-listedAt v cs p = meetingOf (spot p) (indexOf (setBoxes v cs))
+listedAt os p = meetingOf (spot p) (indexOf (setBoxes os))
 
--- some outline listed so has `contains` yes
-unfoldable pub anyAt : List Float → List ℕ → Point → Bool
-unfolding any listedAt outlineAt edges containsOf
-anyAt v cs p = any (λ k. containsOf (edges (outlineAt v cs k)) p) (listedAt v cs p)
+-- outline k has `contains` yes
+abbrev pub containsIn : List Outline → Point → ℕ → Bool
+containsIn os p k = containsOf (edges (outlineIn os k)) p
 
+-- some outline listed so has it
+unfoldable pub anyAt : List Outline → Point → Bool
+unfolding listedAt edges containsOf
+anyAt os p = folds.any (containsIn os p) (listedAt os p)
+
+-- ---- the call, over the set that v and cs are, at p, with the index buffer B
 -- yes is 1, and no is 0
-unfoldable pub anyAnswer : List Float → List ℕ → Point → List Float → List ℕ → List ℕ → Answer
-unfolding setQueryTested answerFor anyAt
-anyAnswer v cs p C L I = answerFor (queryTested v cs p C L I) (Told (cond (anyAt v cs p) 1 0))
+unfoldable pub anyOutcome : List Float → List ℕ → Point → IndexBuffer → Outcome Answer IndexBuffer
+anyOutcome v cs p B = queryOutcome v cs p B (Told (cond (anyAt (outlinesOf v cs) p) 1 0)) Refused
 
--- the answer of `any_at`, and cleared buffers
-pub record Answered (v : List Float) (cs : List ℕ) (p : Point) (C : List Float) (L I : List ℕ) (r : Bool) (C′ : List Float) (L′ I′ : List ℕ) : Type 0 where
-  pub answer : r ≡ anyAt v cs p
-  pub cleared : Cleared C L I C′ L′ I′
+-- the same, with the answer in its fields
+abbrev pub anyCall : List Float → List ℕ → Point → IndexBuffer → Outcome CountFields IndexBuffer
+anyCall v cs p B = inFields countFields (anyOutcome v cs p B)

@@ -3,11 +3,10 @@ ghost use mathlib.Core.Path.{_≡_};
 ghost use Prim.Native.Nat.{_*_, _≤_};
 ghost use lib.ListN.{length};
 ghost use Rattle.lists.specs.Lists.{any};
-ghost use Rattle.boundary.specs.Outline.{edges};
-ghost use Rattle.geometry.specs.Polygon.{containsOf};
-ghost use Rattle.set.specs.Set.{startOf, outlineAt};
-ghost use Rattle.set.specs.Answers.{clearedCorners, clearedLinks, clearedItems, Ready, Starts};
-ghost use Rattle.any.specs.Answers.{anyAnswer, Answered};
+ghost use Rattle.index.specs.Buffer.{buffer};
+ghost use Rattle.set.specs.Set.{startOf, outlinesOf};
+ghost use Rattle.set.specs.Answers.{worked, Ready, Starts};
+ghost use Rattle.any.specs.Answers.{containsIn, anyAt, anyOutcome};
 use accept::Answer;
 use accept::Test;
 use boundary::Bounds;
@@ -19,20 +18,15 @@ use set::refusals;
 // Whether outline k contains p: past the last outline there is none.
 fn holds_at(v: &[f64], counts: &[u32], starts: &[u32], k: usize, p: Point) -> bool
     requires { ⌜ (2 * startOf (now counts) (length (now counts)) ≤ length (now v)) × Starts (now counts) (now starts) ⌝ }
-    ensures { λ r. ⌜ r ≡ containsOf (edges (outlineAt (now (v .entry)) (now (counts .entry)) k)) p ⌝ }
+    ensures { λ r. ⌜ r ≡ containsIn (outlinesOf (now (v .entry)) (now (counts .entry))) p k ⌝ }
 {
-    if k < counts.len() {
-        let at = 2 * (lists::at(starts, k) as usize);
-        let end = at + 2 * (lists::at(counts, k) as usize);
-        return polygon::holds(&v[at..end], p);
-    }
-    false
+    polygon::holds(outlines::outline_at(v, counts, starts, k), p)
 }
 
 // Whether one of the outlines of the list does.
 fn any_holds(v: &[f64], counts: &[u32], starts: &[u32], list: &[u32], p: Point) -> bool
     requires { ⌜ (2 * startOf (now counts) (length (now counts)) ≤ length (now v)) × Starts (now counts) (now starts) ⌝ }
-    ensures { λ r. ⌜ r ≡ any (λ k. containsOf (edges (outlineAt (now (v .entry)) (now (counts .entry)) k)) p) (now (list .entry)) ⌝ }
+    ensures { λ r. ⌜ r ≡ any (containsIn (outlinesOf (now (v .entry)) (now (counts .entry))) p) (now (list .entry)) ⌝ }
 {
     let mut i = 0;
     while i < list.len() {
@@ -57,10 +51,10 @@ fn any_in(
     links: &mut [u32],
     items: &mut [u32],
 ) -> bool
-    requires { ⌜ Ready (now v) (now counts) (length (now corners)) (length (now links)) (length (now items))
+    requires { ⌜ Ready (now v) (now counts) (buffer (now corners) (now links) (now items))
         × (4 * length (now counts) ≤ length (now boxes)) × (length (now counts) ≤ length (now starts)) × (length (now list) ≡ 1024) ⌝ }
-    ensures { λ r. ⌜ Answered (now (v .entry)) (now (counts .entry)) p (now (corners .entry)) (now (links .entry)) (now (items .entry))
-        r (now (corners .exit)) (now (links .exit)) (now (items .exit)) ⌝ }
+    ensures { λ r. ⌜ record { answer = r; lent = buffer (now (corners .exit)) (now (links .exit)) (now (items .exit)) }
+        ≡ worked (anyAt (outlinesOf (now (v .entry)) (now (counts .entry))) p) (buffer (now (corners .entry)) (now (links .entry)) (now (items .entry))) ⌝ }
 {
     let n = 4 * counts.len();
     outlines::put_boxes(v, counts, boxes);
@@ -82,9 +76,9 @@ fn any_few(
     links: &mut [u32],
     items: &mut [u32],
 ) -> bool
-    requires { ⌜ Ready (now v) (now counts) (length (now corners)) (length (now links)) (length (now items)) × (length (now counts) ≤ 32) ⌝ }
-    ensures { λ r. ⌜ Answered (now (v .entry)) (now (counts .entry)) p (now (corners .entry)) (now (links .entry)) (now (items .entry))
-        r (now (corners .exit)) (now (links .exit)) (now (items .exit)) ⌝ }
+    requires { ⌜ Ready (now v) (now counts) (buffer (now corners) (now links) (now items)) × (length (now counts) ≤ 32) ⌝ }
+    ensures { λ r. ⌜ record { answer = r; lent = buffer (now (corners .exit)) (now (links .exit)) (now (items .exit)) }
+        ≡ worked (anyAt (outlinesOf (now (v .entry)) (now (counts .entry))) p) (buffer (now (corners .entry)) (now (links .entry)) (now (items .entry))) ⌝ }
 {
     let mut boxes = [0.0; 128];
     let mut starts = [0; 32];
@@ -110,9 +104,9 @@ fn any_many(
     links: &mut [u32],
     items: &mut [u32],
 ) -> bool
-    requires { ⌜ Ready (now v) (now counts) (length (now corners)) (length (now links)) (length (now items)) ⌝ }
-    ensures { λ r. ⌜ Answered (now (v .entry)) (now (counts .entry)) p (now (corners .entry)) (now (links .entry)) (now (items .entry))
-        r (now (corners .exit)) (now (links .exit)) (now (items .exit)) ⌝ }
+    requires { ⌜ Ready (now v) (now counts) (buffer (now corners) (now links) (now items)) ⌝ }
+    ensures { λ r. ⌜ record { answer = r; lent = buffer (now (corners .exit)) (now (links .exit)) (now (items .exit)) }
+        ≡ worked (anyAt (outlinesOf (now (v .entry)) (now (counts .entry))) p) (buffer (now (corners .entry)) (now (links .entry)) (now (items .entry))) ⌝ }
 {
     let mut boxes = [0.0; 4096];
     let mut starts = [0; 1024];
@@ -138,9 +132,9 @@ fn any_of(
     links: &mut [u32],
     items: &mut [u32],
 ) -> bool
-    requires { ⌜ Ready (now v) (now counts) (length (now corners)) (length (now links)) (length (now items)) ⌝ }
-    ensures { λ r. ⌜ Answered (now (v .entry)) (now (counts .entry)) p (now (corners .entry)) (now (links .entry)) (now (items .entry))
-        r (now (corners .exit)) (now (links .exit)) (now (items .exit)) ⌝ }
+    requires { ⌜ Ready (now v) (now counts) (buffer (now corners) (now links) (now items)) ⌝ }
+    ensures { λ r. ⌜ record { answer = r; lent = buffer (now (corners .exit)) (now (links .exit)) (now (items .exit)) }
+        ≡ worked (anyAt (outlinesOf (now (v .entry)) (now (counts .entry))) p) (buffer (now (corners .entry)) (now (links .entry)) (now (items .entry))) ⌝ }
 {
     if counts.len() <= 32 {
         return any_few(v, counts, p, corners, links, items);
@@ -157,12 +151,10 @@ pub fn any_at(
     links: &mut [u32],
     items: &mut [u32],
 ) -> Answer
-    ensures { λ r. ⌜ (r ≡ anyAnswer (now (v .entry)) (now (counts .entry)) p (now (corners .entry)) (now (links .entry)) (now (items .entry)))
-        × (now (corners .exit) ≡ clearedCorners (now (v .entry)) (now (counts .entry)) p (now (corners .entry)) (now (links .entry)) (now (items .entry)))
-        × (now (links .exit) ≡ clearedLinks (now (v .entry)) (now (counts .entry)) p (now (corners .entry)) (now (links .entry)) (now (items .entry)))
-        × (now (items .exit) ≡ clearedItems (now (v .entry)) (now (counts .entry)) p (now (corners .entry)) (now (links .entry)) (now (items .entry))) ⌝ }
+    ensures { λ r. ⌜ record { answer = r; lent = buffer (now (corners .exit)) (now (links .exit)) (now (items .exit)) }
+        ≡ anyOutcome (now (v .entry)) (now (counts .entry)) p (buffer (now (corners .entry)) (now (links .entry)) (now (items .entry))) ⌝ }
 {
-    let t = refusals::query_tested(v, counts, p, corners.len(), links.len(), items.len());
+    let t = refusals::query_tested(v, counts, p, corners, links, items);
     match t {
         Test::Passed => {
             Answer::Told(if any_of(v, counts, p, corners, links, items) {

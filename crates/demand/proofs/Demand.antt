@@ -18,16 +18,19 @@ use Rattle.boundary.specs.Outline.{edges}
 use Rattle.accept.specs.declared.Answer.the-variants.{Away}
 use Rattle.geometry.specs.Polygon.{containsOf}
 use Rattle.accept.specs.declared.Test.the-variants.{Passed}
-use Rattle.accept.specs.Refusals.{_refusing_when_, given, pointTested, roomTested}
-use Rattle.geometry.specs.Answers.{queryTested, distanceAnswer}
-use Rattle.set.specs.Set.{outlineAt}
-use Rattle.index.specs.Answers.{shortIndex}
+use Rattle.accept.specs.Refusals.{_refusing_when_, given, pointTested}
+use Rattle.accept.specs.Answers.{answerFor}
+use Rattle.geometry.specs.Answers.{distanceAnswer}
+use Rattle.index.specs.Buffer.{IndexBuffer, shortBuffer}
+use Rattle.set.specs.Set.{Outline, outlinesOf, outlineIn}
 use Rattle.set.specs.Tests.{setTested, setQueryTested}
-use Rattle.search.specs.Least.{magnitudeOf, magnitudeAt, leastOf}
+use Rattle.set.specs.Answers.{queryOutcome}
+use Rattle.set.proofs.SetLaws.{outlines-length}
+use Rattle.search.specs.Least.{magnitudeOf, magnitudeAt, leastIn}
 use Rattle.search.proofs.LeastLaws.{least-of}
 use Rattle.nearest.specs.declared.Nearest.the-variants.{At}
 use Rattle.nearest.specs.Nearest.{nearestIn}
-use Rattle.nearest.specs.Answers.{nearestFor, nearestAnswer}
+use Rattle.nearest.specs.Answers.{nearestOutcome}
 use Rattle.nearest.proofs.Theorems.{least-is}
 use Rattle.grid.specs.Grid.{OutlineOn}
 use Rattle.grid.specs.Whole.{PointZ}
@@ -38,18 +41,24 @@ use Rattle.demand.specs.Demand.{OutlineExact, Demand3}
 use Rattle.demand.proofs.OutlineLaws.{outline-passes, outline-on}
 
 module _ (v : List Float) (cs : List ℕ) (passed : setTested v cs ≡ Passed) (some : 0 < length cs) (grid : OutlineOn v) {p : Point} {q : PointZ} (on : PointOn p q) where
+  abbrev os : List Outline
+  os = outlinesOf v cs
+
+  outlines-some : 0 < length os
+  outlines-some = let n = outlines-length v cs in omega arith
+
   -- the distance that the call answers is the one whose magnitude is taken
-  magnitude-is : (k : ℕ) → k < length cs → (d : Distance) → distanceAnswer (outlineAt v cs k) p ≡ Away d → magnitudeAt v cs p k ≡ absOf (d .d)
-  unfolding magnitudeOf distanceAnswer queryTested given _refusing_when_
+  magnitude-is : (k : ℕ) → k < length os → (d : Distance) → distanceAnswer (outlineIn os k) p ≡ Away d → magnitudeAt os p k ≡ absOf (d .d)
+  unfolding magnitudeOf distanceAnswer answerFor pointTested
   magnitude-is k l d e =
-      let o = outlineAt v cs k in
+      let o = outlineIn os k in
       let s = signedOf (nearestOf (edges o) p) p (containsOf (edges o) p) in
       let f : distanceAnswer o p ≡ Away s = rw (outline-passes v cs passed k l, grid-in-field (on .x), grid-in-field (on .y)) in
       let g : Away s ≡ Away d = sym f ∙ e in
       let h : s ≡ d = cc in
       ap (λ (x : Distance). absOf (x .d)) h
 
-  outline-exact : (k : ℕ) → k < length cs → OutlineExact (outlineAt v cs k) p q (magnitudeAt v cs p k)
+  outline-exact : (k : ℕ) → k < length os → OutlineExact (outlineIn os k) p q (magnitudeAt os p k)
   outline-exact k l =
       let g = grid-exact (outline-on v cs grid k) (outline-passes v cs passed k l) in
       let d = g .distance on in
@@ -67,21 +76,21 @@ module _ (v : List Float) (cs : List ℕ) (passed : setTested v cs ≡ Passed) (
       }
 
   -- a magnitude is a number
-  number : (k : ℕ) → k < length cs → T (not (isNan (magnitudeAt v cs p k)))
+  number : (k : ℕ) → k < length os → T (not (isNan (magnitudeAt os p k)))
   number k l =
       let e = outline-exact k l in
       let m = absOf (e .distance .d) in
       rw (e .magnitude-is) (left-not-nan m (inf false) (below-le m (inf false) (below-infinity (abs-is (e .distance-near .is)))))
 
   -- the query passes the tests
-  answered : (C : List Float) (L I : List ℕ) → shortIndex (length C) (length L) (length I) ≡ false → nearestAnswer v cs p C L I ≡ At (leastOf (magnitudeAt v cs p) (length cs))
-  unfolding nearestAnswer nearestFor setQueryTested roomTested pointTested nearestIn
-  answered C L I short = rw (passed, grid-in-field (on .x), grid-in-field (on .y), short, ne-eqb (length cs) 0 (λ z. omega arith))
+  answered : (B : IndexBuffer) → shortBuffer B ≡ false → nearestOutcome v cs p B .answer ≡ At (leastIn os p)
+  unfolding nearestOutcome queryOutcome given setQueryTested _refusing_when_ nearestIn
+  answered B short = rw (passed, grid-in-field (on .x), grid-in-field (on .y), short, ne-eqb (length os) 0 (λ z. let s = outlines-some in omega arith))
 
   pub demand-3 : Demand3 v cs p q
   demand-3 =
-      let best = leastOf (magnitudeAt v cs p) (length cs) in
+      let best = leastIn os p in
       record {
         outlines = outline-exact;
-        nearest = record { best = best; answer = answered; is = least-is v cs p best (least-of (magnitudeAt v cs p) (length cs) some number) };
+        nearest = record { best = best; answer = answered; is = least-is os p best (least-of (magnitudeAt os p) (length os) outlines-some number) };
       }

@@ -1,4 +1,4 @@
--- Demand 3, of a set (v, cs) and a query point p on the grid, which is q in steps. Definitions only.
+-- Demand 3, of the set that the lists v and cs are and a query point p on the grid, which is q in steps. Definitions only.
 use mathlib.Core.Path.{_≡_}
 use mathlib.Core.Bool.{false}
 use mathlib.Core.List.{List}
@@ -12,20 +12,20 @@ use Rattle.boundary.specs.declared.Distance.{Distance}
 use Rattle.boundary.specs.Outline.{edges}
 use Rattle.accept.specs.declared.Answer.the-variants.{Told, Measure, Away}
 use Rattle.geometry.specs.Answers.{areaAnswer, locateAnswer, distanceAnswer}
-use Rattle.index.specs.Answers.{shortIndex}
-use Rattle.set.specs.Set.{outlineAt}
+use Rattle.index.specs.Buffer.{IndexBuffer, shortBuffer}
+use Rattle.set.specs.Set.{Outline, outlinesOf, outlineIn}
 use Rattle.search.specs.declared.Best.{Best}
 use Rattle.search.specs.Least.{magnitudeAt}
 use Rattle.nearest.specs.declared.Nearest.the-variants.{At}
 use Rattle.nearest.specs.Nearest.{NearestIs}
-use Rattle.nearest.specs.Answers.{nearestAnswer}
+use Rattle.nearest.specs.Answers.{nearestOutcome}
 use Rattle.grid.specs.Whole.{PointZ, EdgeZ, shoelaceZ, locationZ}
 use Rattle.exact.specs.Grid.{EdgesOn}
 use Rattle.exact.specs.Distance.{SignedNear}
 
 -- The outline o. `whole` are its edges in steps. Its area is half the exact shoelace sum: a square step is 2 ^ -20 square µm, half of one 2 ^ -21. The location of p is
 -- whole-number geometry's. The distance is within 2 ^ -24 of a step of the exact distance in magnitude, negative at inside points and positive at outside ones (`SignedNear`).
-pub record OutlineExact (o : List Float) (p : Point) (q : PointZ) (magnitude : Float) : Type 0 where
+pub record OutlineExact (o : Outline) (p : Point) (q : PointZ) (magnitude : Float) : Type 0 where
   pub whole : List EdgeZ
   pub on : EdgesOn (edges o) whole
   pub area : Float
@@ -38,13 +38,13 @@ pub record OutlineExact (o : List Float) (p : Point) (q : PointZ) (magnitude : F
   -- `magnitude` is this distance's
   pub magnitude-is : magnitude ≡ absOf (distance .d)
 
--- The nearest answer is the least of the magnitudes, with the lowest number among the outlines that have it (`NearestIs`), and the call answers it in working buffers of index size
+-- The nearest answer is the least of the magnitudes, with the lowest number among the outlines that have it (`NearestIs`), and the call answers it in an index buffer
 pub record NearestLeast (v : List Float) (cs : List ℕ) (p : Point) : Type 0 where
   pub best : Best
-  pub answer : (C : List Float) (L I : List ℕ) → shortIndex (length C) (length L) (length I) ≡ false → nearestAnswer v cs p C L I ≡ At best
-  pub is : NearestIs v cs p best
+  pub answer : (B : IndexBuffer) → shortBuffer B ≡ false → nearestOutcome v cs p B .answer ≡ At best
+  pub is : NearestIs (outlinesOf v cs) p best
 
 -- All of it holds together
 pub record Demand3 (v : List Float) (cs : List ℕ) (p : Point) (q : PointZ) : Type 0 where
-  pub outlines : (k : ℕ) → k < length cs → OutlineExact (outlineAt v cs k) p q (magnitudeAt v cs p k)
+  pub outlines : (k : ℕ) → k < length (outlinesOf v cs) → OutlineExact (outlineIn (outlinesOf v cs) k) p q (magnitudeAt (outlinesOf v cs) p k)
   pub nearest : NearestLeast v cs p

@@ -1,7 +1,7 @@
 -- What the build leaves holds the tree: each node stands at its number, each leaf's items at its place. Assumes nothing.
 use mathlib.Core.Path.{_≡_, refl, sym, ap, ap₂, _∙_}
 use mathlib.Core.List.{List, [], _∷_, _++_, flatMap}
-use Prim.Native.Nat.{ℕ, zero, suc, _+_, _*_, _^_, _≤_, _<_}
+use Prim.Native.Nat.{ℕ, zero, suc, _+_, _*_, _^_, _≤_, _<_, max}
 use native.Mathlib.Nat.{add-zero, pow-suc}
 use native.Mathlib.Omega.{arith}
 use lib.Dec.{leb}
@@ -16,6 +16,7 @@ use Rattle.nodes.specs.declared.Node.{Node}
 use Rattle.entries.specs.Entries.{boxAt}
 use Rattle.splits.specs.Tree.{Tree, leaf, inner, hullOf, treeOf, itemsOf}
 use Rattle.nodes.specs.Layout.{extra, nodeOf, below, nodesOf, cornersOf, linksOf, itemAt, firstAt, countAt}
+use Rattle.index.specs.Buffer.{IndexBuffer, buffer, holding, Stands, levels, Filled}
 use Rattle.lists.proofs.StoreLaws.{flat-at}
 use Rattle.lists.proofs.RunLaws.{length-run, run-at}
 use Rattle.nodes.proofs.TreeLaws.{left, right, length-left, length-right, tree-induct}
@@ -124,21 +125,47 @@ stored-holds t C L is =
       items = run-front (itemsOf t) (drop (length (itemsOf t)) is);
     }
 
--- ---- a tree of 1 to 1,024 items has at most nine levels, and each leaf has an item
-unfoldable pub Deep : ℕ → Tree → Type 0
-Deep zero t = ⊥
-Deep (suc d) (leaf b is) = 0 < length is
-Deep (suc d) (inner b l r) = Deep d l × Deep d r
+-- a tree that is held so, of which each leaf has an item, stands there
+holds-stands : (B : IndexBuffer) (t : Tree) (at n next : ℕ) → Holds (B .corners) (B .links) (B .items) t at n next → Filled t → next + extra t ≤ 511 → Stands B n t
+unfolding Stands Filled nodeOf itemsOf extra
+holds-stands B (leaf b is) at n next h f room = (h .own .box, rw (h .own .count) f, rw (h .own .first, h .own .count) (h .items))
+holds-stands B (inner b l r) at n next h f room = (
+  h .own .box,
+  h .own .count,
+  rw (h .own .first) (omega arith),
+  rw (h .own .first) (holds-stands B l at next (next + 2) (holds-first _ _ _ b l r at n next h) (f .0) (omega arith)),
+  rw (h .own .first) (holds-stands B r (at + length (itemsOf l)) (next + 1) (next + 2 + extra l) (holds-second _ _ _ b l r at n next h) (f .1) (omega arith)),
+)
 
-pub tree-deep : (W : ℕ → Bounds) (C : ℕ → Point) (k : ℕ) (is : List ℕ) → length is ≤ 4 * 2 ^ k → 0 < length is → Deep (suc k) (treeOf W C is)
-unfolding Deep
-tree-deep W C k is h s = tree-induct W C (λ is t. (k : ℕ) → length is ≤ 4 * 2 ^ k → 0 < length is → Deep (suc k) t) (λ is _ k _ s. rw (length-sort leb is) s) step (length is) is (omega arith) k h s
+-- THE BUILD'S LAYOUT is one in which the tree stands, from node 0 on
+pub holding-stands : (t : Tree) (B : IndexBuffer) → Filled t → 1 + extra t ≤ 511 → Stands (holding t B) 0 t
+unfolding holding
+holding-stands t B f room = holds-stands (holding t B) t 0 0 1 (stored-holds t (B .corners) (B .links) (B .items)) f room
+
+-- ---- the trees of the build
+-- four times 2^k items at most have k levels of inner nodes at most
+pub tree-levels : (W : ℕ → Bounds) (C : ℕ → Point) (k : ℕ) (is : List ℕ) → length is ≤ 4 * 2 ^ k → levels (treeOf W C is) ≤ suc k
+unfolding levels
+tree-levels W C k is h = tree-induct W C (λ is t. (k : ℕ) → length is ≤ 4 * 2 ^ k → levels t ≤ suc k) (λ is _ k _. omega arith) step (length is) is (omega arith) k h
   where
-    step : (is : List ℕ) (l r : Tree) → 4 < length is → ((k : ℕ) → length (left C is) ≤ 4 * 2 ^ k → 0 < length (left C is) → Deep (suc k) l) → ((k : ℕ) → length (right C is) ≤ 4 * 2 ^ k → 0 < length (right C is) → Deep (suc k) r)
-        → (k : ℕ) → length is ≤ 4 * 2 ^ k → 0 < length is → Deep (suc k) (inner (hullOf W is) l r)
-    step is l r h p q zero n s = absurd (omega arith)
-    step is l r h p q (suc k) n s =
+    step : (is : List ℕ) (l r : Tree) → 4 < length is → ((k : ℕ) → length (left C is) ≤ 4 * 2 ^ k → levels l ≤ suc k) → ((k : ℕ) → length (right C is) ≤ 4 * 2 ^ k → levels r ≤ suc k)
+        → (k : ℕ) → length is ≤ 4 * 2 ^ k → levels (inner (hullOf W is) l r) ≤ suc k
+    step is l r h p q zero n = absurd (omega arith)
+    step is l r h p q (suc k) n =
         let e : 2 ^ suc k ≡ 2 ^ k * 2 = pow-suc 2 k in
         let a = length-left C is in
         let b = length-right C is in
-        (p k (omega arith) (omega arith), q k (omega arith) (omega arith))
+        let u = p k (omega arith) in
+        let v = q k (omega arith) in
+        omega arith
+
+-- where there is an item, each leaf has one
+pub tree-filled : (W : ℕ → Bounds) (C : ℕ → Point) (is : List ℕ) → 0 < length is → Filled (treeOf W C is)
+unfolding Filled
+tree-filled W C is s = tree-induct W C (λ is t. 0 < length is → Filled t) (λ is _ s. rw (length-sort leb is) s) step (length is) is (omega arith) s
+  where
+    step : (is : List ℕ) (l r : Tree) → 4 < length is → (0 < length (left C is) → Filled l) → (0 < length (right C is) → Filled r) → 0 < length is → Filled (inner (hullOf W is) l r)
+    step is l r h p q s =
+        let a = length-left C is in
+        let b = length-right C is in
+        (p (omega arith), q (omega arith))

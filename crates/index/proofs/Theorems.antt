@@ -22,8 +22,10 @@ use Rattle.nodes.specs.Layout.{nodesOf}
 use Rattle.boundary.specs.Boxes.{boxFits}
 use Rattle.index.specs.Answers.{boxesTested}
 use Rattle.nodes.proofs.TreeLaws.{left, right, times-halves, tree-induct}
+use Rattle.nodes.proofs.LayoutLaws.{length-below}
 use Rattle.lists.proofs.RunLaws.{length-run}
-use Rattle.index.proofs.ReadLaws.{Deep, tree-deep}
+use Rattle.index.specs.Buffer.{IndexBuffer, holding, Stands, levels, Filled}
+use Rattle.index.proofs.ReadLaws.{holding-stands, tree-levels, tree-filled}
 use Rattle.lists.proofs.FoldLaws.{or-none}
 use Rattle.index.proofs.GrowLaws.{boxes-passed, boxes-fit, index-nodes}
 use Rattle.boundary.proofs.AroundLaws.{NumberBox}
@@ -171,16 +173,31 @@ pub node-boxes : (v : List Float) → boxesTested v ≡ Passed → EachNode (λ 
 unfolding indexOf
 node-boxes v p = tree-holds (wideAt v) (λ i. centreOf (wideAt v i)) (run (λ n. n) 0 (boxCount v)) (listed-number v p)
 
--- where there are boxes, the index has nine levels at most, and each leaf has an item
-pub index-deep : (v : List Float) → boxesTested v ≡ Passed → (length v ≡ 0 → ⊥) → Deep 9 (indexOf v)
+-- ---- the index as a tree that stands in a buffer
+-- LEVELS: nine at most
+pub index-levels : (v : List Float) → boxesTested v ≡ Passed → levels (indexOf v) ≤ 9
 unfolding indexOf
-index-deep v p some =
-    let b = boxes-passed v p in
-    let s = b .0 in
-    let w = b .1 in
+index-levels v p =
+    let s = boxes-passed v p .0 in
+    let n = length-run (λ n. n) 0 (boxCount v) in
+    tree-levels (wideAt v) (λ i. centreOf (wideAt v i)) 8 (run (λ n. n) 0 (boxCount v)) (omega arith)
+
+-- LEAVES: where there are boxes, each has an item
+pub index-filled : (v : List Float) → boxesTested v ≡ Passed → (length v ≡ 0 → ⊥) → Filled (indexOf v)
+unfolding indexOf
+index-filled v p some =
+    let w = boxes-passed v p .1 in
     let n = length-run (λ n. n) 0 (boxCount v) in
     let m : 0 < length v = pos-of (length v) some in
-    tree-deep (wideAt v) (λ i. centreOf (wideAt v i)) 8 (run (λ n. n) 0 (boxCount v)) (omega arith) (omega arith)
+    tree-filled (wideAt v) (λ i. centreOf (wideAt v i)) (run (λ n. n) 0 (boxCount v)) (omega arith)
   where
     pos-of : (n : ℕ) → (n ≡ 0 → ⊥) → 0 < n
     pos-of n h = omega arith
+
+-- what building leaves is the index, from node 0 on
+pub index-stands : (v : List Float) (B : IndexBuffer) → boxesTested v ≡ Passed → (length v ≡ 0 → ⊥) → Stands (holding (indexOf v) B) 0 (indexOf v)
+unfolding nodesOf
+index-stands v B p some =
+    let n = nodes-511 v p in
+    let k = length-below (indexOf v) 0 1 in
+    holding-stands (indexOf v) B (index-filled v p some) (omega arith)

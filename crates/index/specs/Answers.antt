@@ -1,86 +1,38 @@
--- The tests of a box list, in document 01's order, and what building answers. Definitions only.
+-- The tests of a box list, in document 01's order, and all that building leaves. Definitions only.
 use mathlib.Core.Path.{_≡_}
-use mathlib.Core.Bool.{Bool, not, cond, _||_}
+use mathlib.Core.Bool.{Bool, not}
 use mathlib.Core.List.{List, flatMap}
-use Prim.Native.Nat.{ℕ, _%_, _≤_}
+use Prim.Native.Nat.{ℕ, _%_, _*_, _≤_}
 use lib.Dec.{eqb, ltb}
 use lib.ListN.{length}
 use lib.Ieee.{Float}
 use Rattle.number.specs.Exact.{zeroᶠ}
 use Rattle.boundary.specs.Boxes.{boxFits}
 use Rattle.lists.specs.Lists.{any, atFront, zeros}
-use Rattle.accept.specs.declared.Refusal.the-variants.{TooMany, BadBox}
+use Rattle.accept.specs.declared.Refusal.{Refusal}
+use Rattle.accept.specs.declared.Refusal.the-variants.{TooMany, BadBox, ShortBuffer}
 use Rattle.accept.specs.declared.Test.{Test}
-use Rattle.accept.specs.declared.Test.the-variants.{Passed, Failed}
-use Rattle.accept.specs.Lists.{writtenFor}
-use Rattle.accept.specs.Refusals.{number, roomTested}
+use Rattle.accept.specs.declared.Test.the-variants.{Passed}
+use Rattle.accept.specs.Answers.{Outcome}
+use Rattle.accept.specs.Refusals.{number, given, _refusing_when_}
 use Rattle.index.specs.declared.Built.{Built}
 use Rattle.index.specs.declared.Built.the-variants.{Refused, Sized}
+use Rattle.index.specs.declared.BuildFields.{BuildFields}
+use Rattle.index.specs.Buffer.{IndexBuffer, shortSizes, shortBuffer, holding}
 use Rattle.entries.specs.Entries.{boxesOf}
 use Rattle.splits.specs.Tree.{Tree, indexOf, itemsOf}
 use Rattle.nodes.specs.Layout.{nodesOf, cornersOf, linksOf}
 
 -- ---- tests 4 and 11
 unfoldable pub boxesTested : List Float → Test
-unfolding boxFits boxesOf any
+unfolding boxFits boxesOf any _refusing_when_
 boxesTested v =
-    cond (ltb 4096 (length v)) (Failed TooMany)
-    (cond (eqb (length v % 4) 0) (cond (any (λ b. not (boxFits b)) (boxesOf v)) (Failed BadBox) Passed) (Failed BadBox))
+    Passed
+    refusing TooMany when ltb 4096 (length v)
+    refusing BadBox when not (eqb (length v % 4) 0)
+    refusing BadBox when any (λ b. not (boxFits b)) (boxesOf v)
 
--- an index buffer of so many corner numbers, link numbers and items is too short: 511 nodes and 1,024 items
-abbrev pub shortIndex : ℕ → ℕ → ℕ → Bool
-shortIndex corners links items = ltb corners 2044 || (ltb links 1022 || ltb items 1024)
-
--- ---- building
-unfoldable pub buildTested : List Float → ℕ → ℕ → ℕ → Test
-unfolding boxesTested roomTested
-buildTested v corners links items = roomTested (shortIndex corners links items) (boxesTested v)
-
-unfoldable pub builtFor : Tree → Test → Built
-unfolding nodesOf itemsOf
-builtFor t Passed = Sized (length (nodesOf t)) (length (itemsOf t))
-builtFor t (Failed r) = Refused r
-
--- ---- building, by what the call is lent: the boxes, and the lists for corners, links and items
--- what it answers
-unfoldable pub buildAnswer : List Float → List Float → List ℕ → List ℕ → Built
-unfolding builtFor buildTested
-buildAnswer v C L I = builtFor (indexOf v) (buildTested v (length C) (length L) (length I))
-
--- what it leaves in the lists: all nodes' corners, all nodes' links, and the items
-unfoldable pub builtCorners : List Float → List Float → List ℕ → List ℕ → List Float
-unfolding writtenFor buildTested
-builtCorners v C L I = writtenFor (flatMap cornersOf (nodesOf (indexOf v))) C (buildTested v (length C) (length L) (length I))
-
-unfoldable pub builtLinks : List Float → List Float → List ℕ → List ℕ → List ℕ
-unfolding writtenFor buildTested
-builtLinks v C L I = writtenFor (flatMap linksOf (nodesOf (indexOf v))) L (buildTested v (length C) (length L) (length I))
-
-unfoldable pub builtItems : List Float → List Float → List ℕ → List ℕ → List ℕ
-unfolding writtenFor buildTested
-builtItems v C L I = writtenFor (itemsOf (indexOf v)) I (buildTested v (length C) (length L) (length I))
-
--- what the call returns and puts into its answer fields: a refusal gives its number, and zeros
-abbrev pub builtNumber : Built → ℕ
-builtNumber (Refused r) = number r
-builtNumber (Sized n k) = 0
-
-abbrev pub nodesIn : Built → ℕ
-nodesIn (Refused r) = 0
-nodesIn (Sized n k) = n
-
-abbrev pub itemsIn : Built → ℕ
-itemsIn (Refused r) = 0
-itemsIn (Sized n k) = k
-
--- what building a tree leaves: how many nodes there are, their corners, their links and the items
-pub record Stored (t : Tree) (C : List Float) (L is : List ℕ) (r : ℕ) (C′ : List Float) (L′ is′ : List ℕ) : Type 0 where
-  pub nodes : r ≡ length (nodesOf t)
-  pub corners : C′ ≡ atFront (flatMap cornersOf (nodesOf t)) C
-  pub links : L′ ≡ atFront (flatMap linksOf (nodesOf t)) L
-  pub items : is′ ≡ atFront (itemsOf t) is
-
--- a box list that passes the tests, and buffers of index size
+-- a box list that passes the tests, and lists of so many corner numbers, link numbers and items that are an index buffer
 pub record Accepted (v : List Float) (c l n : ℕ) : Type 0 where
   pub size : length v ≤ 4096
   pub whole : length v % 4 ≡ 0
@@ -88,8 +40,33 @@ pub record Accepted (v : List Float) (c l n : ℕ) : Type 0 where
   pub links : 1022 ≤ l
   pub items : 1024 ≤ n
 
--- an index buffer that was used for work: zeros in its 511 nodes and 1,024 items, the rest unchanged
-pub record Cleared (C : List Float) (L I : List ℕ) (C′ : List Float) (L′ I′ : List ℕ) : Type 0 where
-  pub corners : C′ ≡ atFront (zeros zeroᶠ 2044) C
-  pub links : L′ ≡ atFront (zeros 0 1022) L
-  pub items : I′ ≡ atFront (zeros 0 1024) I
+-- working lists that are long enough to build over n boxes: for their widened boxes, their centres' coordinates and their numbers
+pub record Workspace (n w x y k : ℕ) : Type 0 where
+  pub wide : 4 * n ≤ w
+  pub xs : n ≤ x
+  pub ys : n ≤ y
+  pub work : n ≤ k
+
+-- ---- building, by what the call is lent: the boxes v, and the index buffer B
+unfoldable pub buildTested : List Float → IndexBuffer → Test
+unfolding boxesTested _refusing_when_
+buildTested v B =
+    boxesTested v
+    refusing ShortBuffer when shortBuffer B
+
+-- what it answers, how many nodes and items there are, and what it leaves in the buffer
+unfoldable pub buildOutcome : List Float → IndexBuffer → Outcome Built IndexBuffer
+unfolding buildTested given
+buildOutcome v B = given (buildTested v B)
+    (record { answer = Sized (length (nodesOf (indexOf v))) (length (itemsOf (indexOf v))); lent = holding (indexOf v) B })
+    (λ r. record { answer = Refused r; lent = B })
+
+-- what the call returns and puts into its answer fields: a refusal gives its number, and zeros
+abbrev pub buildFieldsOf : Built → BuildFields
+buildFieldsOf (Refused r) = record { number = number r; nodes = 0; items = 0 }
+buildFieldsOf (Sized n k) = record { number = 0; nodes = n; items = k }
+
+-- the same outcome, with the answer in its fields
+unfoldable pub buildCall : List Float → IndexBuffer → Outcome BuildFields IndexBuffer
+unfolding buildOutcome
+buildCall v B = record { answer = buildFieldsOf (buildOutcome v B .answer); lent = buildOutcome v B .lent }

@@ -2,13 +2,14 @@
 use mathlib.Core.Path.{_≡_}
 use mathlib.Core.Bool.{Bool, _||_}
 use mathlib.Core.List.{List, flatMap}
-use Prim.Native.Nat.{ℕ, _+_, _≤_, _<_}
+use Prim.Native.Nat.{ℕ, _+_, _≤_, _<_, max}
 use lib.Dec.{ltb}
 use lib.ListN.{length}
 use lib.Ieee.{Float}
 use Rattle.number.specs.Exact.{zeroᶠ}
 use Rattle.boundary.specs.declared.Bounds.{Bounds}
 use Rattle.lists.specs.Lists.{run, atFront, zeros}
+use Rattle.accept.specs.Answers.{Outcome}
 use Rattle.entries.specs.Entries.{boxAt}
 use Rattle.splits.specs.Tree.{Tree, leaf, inner, itemsOf}
 use Rattle.nodes.specs.Layout.{nodesOf, cornersOf, linksOf, itemAt, firstAt, countAt}
@@ -39,6 +40,10 @@ holding t B = record {
   items = atFront (itemsOf t) (B .items);
 }
 
+-- building there: the number of the tree's nodes, and the buffer that then holds it
+unfoldable pub grown : Tree → IndexBuffer → Outcome ℕ IndexBuffer
+grown t B = record { answer = length (nodesOf t); lent = holding t B }
+
 -- after work: zeros in all 511 nodes and 1,024 items; places past them are unchanged
 unfoldable pub cleared : IndexBuffer → IndexBuffer
 unfolding atFront
@@ -60,3 +65,13 @@ leafItems B n = run (itemAt (B .items)) (firstAt (B .links) n) (countAt (B .link
 unfoldable pub Stands : IndexBuffer → ℕ → Tree → Type 0
 Stands B n (leaf b is) = (nodeBox B n ≡ b) × (0 < countAt (B .links) n) × (leafItems B n ≡ is)
 Stands B n (inner b l r) = (nodeBox B n ≡ b) × (countAt (B .links) n ≡ 0) × (firstAt (B .links) n + 2 ≤ 511) × Stands B (firstAt (B .links) n) l × Stands B (firstAt (B .links) n + 1) r
+
+-- how many nodes there are from the root to the lowest leaf, both counted
+unfoldable pub levels : Tree → ℕ
+levels (leaf b is) = 1
+levels (inner b l r) = 1 + max (levels l) (levels r)
+
+-- each leaf has an item
+unfoldable pub Filled : Tree → Type 0
+Filled (leaf b is) = 0 < length is
+Filled (inner b l r) = Filled l × Filled r

@@ -4,12 +4,13 @@ pub mod refusals;
 pub mod tree;
 
 ghost use mathlib.Core.Path.{_≡_};
-ghost use Rattle.index.specs.Answers.{buildAnswer, builtCorners, builtLinks, builtItems};
+ghost use Rattle.index.specs.Buffer.{buffer};
+ghost use Rattle.index.specs.Answers.{buildOutcome};
 use accept::Refusal;
 use accept::Test;
 
 // What building returns, and what it puts into its answer fields.
-pub struct Fields {
+pub struct BuildFields {
     pub number: u32,
     pub nodes: u32,
     pub items: u32,
@@ -23,10 +24,8 @@ pub enum Built {
 
 // The index of a list of boxes, in lent buffers.
 pub fn new(boxes: &[f64], corners: &mut [f64], links: &mut [u32], items: &mut [u32]) -> Built
-    ensures { λ r. ⌜ (r ≡ buildAnswer (now (boxes .entry)) (now (corners .entry)) (now (links .entry)) (now (items .entry)))
-        × (now (corners .exit) ≡ builtCorners (now (boxes .entry)) (now (corners .entry)) (now (links .entry)) (now (items .entry)))
-        × (now (links .exit) ≡ builtLinks (now (boxes .entry)) (now (corners .entry)) (now (links .entry)) (now (items .entry)))
-        × (now (items .exit) ≡ builtItems (now (boxes .entry)) (now (corners .entry)) (now (links .entry)) (now (items .entry))) ⌝ }
+    ensures { λ r. ⌜ record { answer = r; lent = buffer (now (corners .exit)) (now (links .exit)) (now (items .exit)) }
+        ≡ buildOutcome (now (boxes .entry)) (buffer (now (corners .entry)) (now (links .entry)) (now (items .entry))) ⌝ }
 {
     let t = refusals::build_tested(boxes, corners.len(), links.len(), items.len());
     match t {

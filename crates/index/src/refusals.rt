@@ -5,11 +5,14 @@ ghost use Prim.Native.Nat.{_≤_};
 ghost use Rattle.lists.specs.Lists.{any};
 ghost use Rattle.entries.specs.Entries.{boxCount, boxesOf};
 ghost use Rattle.boundary.specs.Boxes.{boxFits};
-ghost use Rattle.index.specs.Answers.{boxesTested, shortIndex, buildTested};
+ghost use Rattle.accept.specs.declared.Refusal.the-variants.{ShortBuffer};
+ghost use Rattle.accept.specs.Refusals.{_refusing_when_};
+ghost use Rattle.index.specs.Answers.{boxesTested};
+ghost use Rattle.index.specs.Buffer.{shortSizes};
 use accept::Refusal;
 use accept::Test;
 use accept::refusals::box_fits;
-use accept::refusals::room_tested;
+use accept::refusals::refusing;
 
 // Whether a box of the list is not one of the field, or has a minimum above its maximum.
 fn any_unfit(boxes: &[f64]) -> bool
@@ -44,14 +47,18 @@ pub fn boxes_tested(boxes: &[f64]) -> Test
 
 // Whether an index buffer is too short.
 pub fn short_index(corners: usize, links: usize, items: usize) -> bool
-    ensures { λ r. ⌜ r ≡ shortIndex corners links items ⌝ }
+    ensures { λ r. ⌜ r ≡ shortSizes corners links items ⌝ }
 {
     (corners < 2044) | ((links < 1022) | (items < 1024))
 }
 
-// The tests of building.
+// The tests of building, in lists of so many corner numbers, link numbers and items.
 pub fn build_tested(boxes: &[f64], corners: usize, links: usize, items: usize) -> Test
-    ensures { λ r. ⌜ r ≡ buildTested (now (boxes .entry)) corners links items ⌝ }
+    ensures { λ r. ⌜ r ≡ (boxesTested (now (boxes .entry)) refusing ShortBuffer when shortSizes corners links items) ⌝ }
 {
-    room_tested(short_index(corners, links, items), boxes_tested(boxes))
+    refusing(
+        boxes_tested(boxes),
+        Refusal::ShortBuffer,
+        short_index(corners, links, items),
+    )
 }

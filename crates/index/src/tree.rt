@@ -1,13 +1,18 @@
 // The index of a whole list of boxes, with the space that the build needs.
 ghost use mathlib.Core.Path.{_≡_};
-ghost use Prim.Native.Nat.{_*_, _≤_};
+ghost use Prim.Native.Nat.{_≤_};
 ghost use lib.ListN.{length};
 ghost use Rattle.lists.specs.Lists.{run};
 ghost use Rattle.entries.specs.Entries.{boxCount, wideAt};
 ghost use Rattle.splits.specs.Tree.{hullOf, indexOf};
-ghost use Rattle.index.specs.Answers.{Stored, Accepted, Cleared};
+ghost use Rattle.index.specs.Answers.{Accepted, Workspace};
+ghost use Rattle.index.specs.Buffer.{buffer, grown, cleared};
 use boundary::Bounds;
 use boundary::boxes;
+
+// The index of a list of boxes that passes the tests has at most so many levels (`index-levels` in
+// proofs/Theorems.antt).
+pub const LEVELS: usize = 9;
 
 // The tree over all boxes, built with lent space for what the build reads.
 fn grow_in(
@@ -21,9 +26,9 @@ fn grow_in(
     items: &mut [u32],
 ) -> usize
     requires { ⌜ Accepted (now boxes) (length (now corners)) (length (now links)) (length (now items))
-        × (4 * boxCount (now boxes) ≤ length (now wide)) × (boxCount (now boxes) ≤ length (now xs)) × (boxCount (now boxes) ≤ length (now ys)) × (boxCount (now boxes) ≤ length (now work)) ⌝ }
-    ensures { λ r. ⌜ Stored (indexOf (now (boxes .entry))) (now (corners .entry)) (now (links .entry)) (now (items .entry))
-        r (now (corners .exit)) (now (links .exit)) (now (items .exit)) ⌝ }
+        × Workspace (boxCount (now boxes)) (length (now wide)) (length (now xs)) (length (now ys)) (length (now work)) ⌝ }
+    ensures { λ r. ⌜ record { answer = r; lent = buffer (now (corners .exit)) (now (links .exit)) (now (items .exit)) }
+        ≡ grown (indexOf (now (boxes .entry))) (buffer (now (corners .entry)) (now (links .entry)) (now (items .entry))) ⌝ }
 {
     let n = boxes.len() / 4;
     let k = 4 * n;
@@ -64,8 +69,8 @@ fn hull_wide(boxes: &[f64]) -> Bounds
 // The index of a list of at most 4 boxes, which is one leaf, in buffers of index size.
 fn grow_leaf(boxes: &[f64], corners: &mut [f64], links: &mut [u32], items: &mut [u32]) -> usize
     requires { ⌜ Accepted (now boxes) (length (now corners)) (length (now links)) (length (now items)) × (boxCount (now boxes) ≤ 4) ⌝ }
-    ensures { λ r. ⌜ Stored (indexOf (now (boxes .entry))) (now (corners .entry)) (now (links .entry)) (now (items .entry))
-        r (now (corners .exit)) (now (links .exit)) (now (items .exit)) ⌝ }
+    ensures { λ r. ⌜ record { answer = r; lent = buffer (now (corners .exit)) (now (links .exit)) (now (items .exit)) }
+        ≡ grown (indexOf (now (boxes .entry))) (buffer (now (corners .entry)) (now (links .entry)) (now (items .entry))) ⌝ }
 {
     let n = boxes.len() / 4;
     entries::put_box(corners, 0, hull_wide(boxes));
@@ -78,8 +83,8 @@ fn grow_leaf(boxes: &[f64], corners: &mut [f64], links: &mut [u32], items: &mut 
 // as large as is needed, since it is filled with zeros first.
 fn grow_few(boxes: &[f64], corners: &mut [f64], links: &mut [u32], items: &mut [u32]) -> usize
     requires { ⌜ Accepted (now boxes) (length (now corners)) (length (now links)) (length (now items)) × (boxCount (now boxes) ≤ 16) ⌝ }
-    ensures { λ r. ⌜ Stored (indexOf (now (boxes .entry))) (now (corners .entry)) (now (links .entry)) (now (items .entry))
-        r (now (corners .exit)) (now (links .exit)) (now (items .exit)) ⌝ }
+    ensures { λ r. ⌜ record { answer = r; lent = buffer (now (corners .exit)) (now (links .exit)) (now (items .exit)) }
+        ≡ grown (indexOf (now (boxes .entry))) (buffer (now (corners .entry)) (now (links .entry)) (now (items .entry))) ⌝ }
 {
     let mut wide = [0.0; 64];
     let mut xs = [0.0; 16];
@@ -99,8 +104,8 @@ fn grow_few(boxes: &[f64], corners: &mut [f64], links: &mut [u32], items: &mut [
 
 fn grow_some(boxes: &[f64], corners: &mut [f64], links: &mut [u32], items: &mut [u32]) -> usize
     requires { ⌜ Accepted (now boxes) (length (now corners)) (length (now links)) (length (now items)) × (boxCount (now boxes) ≤ 128) ⌝ }
-    ensures { λ r. ⌜ Stored (indexOf (now (boxes .entry))) (now (corners .entry)) (now (links .entry)) (now (items .entry))
-        r (now (corners .exit)) (now (links .exit)) (now (items .exit)) ⌝ }
+    ensures { λ r. ⌜ record { answer = r; lent = buffer (now (corners .exit)) (now (links .exit)) (now (items .exit)) }
+        ≡ grown (indexOf (now (boxes .entry))) (buffer (now (corners .entry)) (now (links .entry)) (now (items .entry))) ⌝ }
 {
     let mut wide = [0.0; 512];
     let mut xs = [0.0; 128];
@@ -120,8 +125,8 @@ fn grow_some(boxes: &[f64], corners: &mut [f64], links: &mut [u32], items: &mut 
 
 fn grow_many(boxes: &[f64], corners: &mut [f64], links: &mut [u32], items: &mut [u32]) -> usize
     requires { ⌜ Accepted (now boxes) (length (now corners)) (length (now links)) (length (now items)) ⌝ }
-    ensures { λ r. ⌜ Stored (indexOf (now (boxes .entry))) (now (corners .entry)) (now (links .entry)) (now (items .entry))
-        r (now (corners .exit)) (now (links .exit)) (now (items .exit)) ⌝ }
+    ensures { λ r. ⌜ record { answer = r; lent = buffer (now (corners .exit)) (now (links .exit)) (now (items .exit)) }
+        ≡ grown (indexOf (now (boxes .entry))) (buffer (now (corners .entry)) (now (links .entry)) (now (items .entry))) ⌝ }
 {
     let mut wide = [0.0; 4096];
     let mut xs = [0.0; 1024];
@@ -142,8 +147,8 @@ fn grow_many(boxes: &[f64], corners: &mut [f64], links: &mut [u32], items: &mut 
 // The index of a list of boxes, in buffers of index size. Gives the number of its nodes.
 pub fn grow(boxes: &[f64], corners: &mut [f64], links: &mut [u32], items: &mut [u32]) -> usize
     requires { ⌜ Accepted (now boxes) (length (now corners)) (length (now links)) (length (now items)) ⌝ }
-    ensures { λ r. ⌜ Stored (indexOf (now (boxes .entry))) (now (corners .entry)) (now (links .entry)) (now (items .entry))
-        r (now (corners .exit)) (now (links .exit)) (now (items .exit)) ⌝ }
+    ensures { λ r. ⌜ record { answer = r; lent = buffer (now (corners .exit)) (now (links .exit)) (now (items .exit)) }
+        ≡ grown (indexOf (now (boxes .entry))) (buffer (now (corners .entry)) (now (links .entry)) (now (items .entry))) ⌝ }
 {
     let n = boxes.len() / 4;
     if n <= 4 {
@@ -166,8 +171,8 @@ pub fn grow_or_leaf(
     items: &mut [u32],
 ) -> usize
     requires { ⌜ Accepted (now boxes) (length (now corners)) (length (now links)) (length (now items)) ⌝ }
-    ensures { λ r. ⌜ Stored (indexOf (now (boxes .entry))) (now (corners .entry)) (now (links .entry)) (now (items .entry))
-        r (now (corners .exit)) (now (links .exit)) (now (items .exit)) ⌝ }
+    ensures { λ r. ⌜ record { answer = r; lent = buffer (now (corners .exit)) (now (links .exit)) (now (items .exit)) }
+        ≡ grown (indexOf (now (boxes .entry))) (buffer (now (corners .entry)) (now (links .entry)) (now (items .entry))) ⌝ }
 {
     if boxes.len() / 4 <= 4 {
         return grow_leaf(boxes, corners, links, items);
@@ -178,7 +183,7 @@ pub fn grow_or_leaf(
 // Zeros in the nodes and items of an index buffer that was used for work.
 pub fn clear(corners: &mut [f64], links: &mut [u32], items: &mut [u32])
     requires { ⌜ (2044 ≤ length (now corners)) × (1022 ≤ length (now links)) × (1024 ≤ length (now items)) ⌝ }
-    ensures { λ _. ⌜ Cleared (now (corners .entry)) (now (links .entry)) (now (items .entry)) (now (corners .exit)) (now (links .exit)) (now (items .exit)) ⌝ }
+    ensures { λ _. ⌜ buffer (now (corners .exit)) (now (links .exit)) (now (items .exit)) ≡ cleared (buffer (now (corners .entry)) (now (links .entry)) (now (items .entry))) ⌝ }
 {
     lists::clear_numbers(corners, 2044);
     lists::clear_counts(links, 1022);

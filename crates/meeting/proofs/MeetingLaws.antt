@@ -1,34 +1,39 @@
 -- The walk of the buffer lists what `meeting` says: leaf boxes alone decide, and no item is listed twice as far as there is room. Assumes nothing.
 use mathlib.Core.Path.{_≡_, refl, sym, ap, _∙_, subst}
-use mathlib.Core.Bool.{Bool, true, false, cond, _||_}
-use mathlib.Core.List.{List, [], _∷_, _++_, flatMap}
-use Prim.Native.Nat.{ℕ, zero, suc, _+_, _-_, _≤_, _<_}
+use mathlib.Core.Bool.{Bool, true, false, not, cond, _||_}
+use mathlib.Core.List.{List, [], _∷_, _++_}
+use Prim.Native.Nat.{ℕ, zero, suc, _+_, _≤_}
 use native.Mathlib.Omega.{arith}
 use lib.Dec.{T, eqb, ltb}
 use lib.ListN.{length, length-append}
 use lib.Ieee.{Float, lt, le}
-use borrow.Author.Tests.{eqb-true, eqb-false, ltb-false}
+use borrow.Author.Tests.{eqb-true, eqb-false, lt-ltb, le-ltb, ltb-false}
 use lib.Ieee.Bits.{is-true}
 use Rattle.number.proofs.OrderLaws.{below-through, through-below}
 use Rattle.boundary.specs.declared.Bounds.{Bounds}
 use Rattle.boundary.specs.Boxes.{Around}
+use Rattle.boundary.specs.Boxes.{boxFits}
+use Rattle.accept.specs.Answers.{Outcome}
+use Rattle.accept.specs.declared.Answer.{Answer}
 use Rattle.lists.specs.Lists.{atFront}
-use Rattle.accept.specs.declared.Test.the-variants.{Passed}
-use Rattle.accept.specs.Refusals.{cellTested}
-use Rattle.accept.proofs.TestLaws.{room-passed, cell-passed}
-use Rattle.entries.specs.Entries.{boxAt}
+use Rattle.accept.specs.Refusals.{_refusing_when_}
+use Rattle.accept.specs.declared.Answer.the-variants.{Refused, Told}
+use Rattle.accept.specs.declared.Refusal.{Refusal}
+use Rattle.accept.specs.declared.Refusal.the-variants.{BadBox, ShortBuffer}
+use Rattle.accept.specs.declared.Test.{Test}
+use Rattle.accept.specs.declared.Test.the-variants.{Passed, Failed}
+use Rattle.accept.proofs.TestLaws.{refusing-passed}
 use Rattle.splits.specs.Tree.{Tree, leaf, inner, indexOf, itemsOf}
-use Rattle.nodes.specs.Layout.{extra, nodeOf, nodesOf, cornersOf, linksOf}
-use Rattle.index.specs.Answers.{boxesTested, shortIndex, Stored, Accepted, Cleared}
-use Rattle.lists.proofs.FoldLaws.{or-none}
+use Rattle.nodes.specs.Layout.{firstAt, countAt}
+use Rattle.index.specs.Buffer.{IndexBuffer, buffer, shortBuffer, holding, grown, cleared, Stands, levels}
+use Rattle.index.specs.Answers.{boxesTested, Accepted}
 use Rattle.lists.proofs.StoreLaws.{sets-front}
-use Rattle.index.proofs.GrowLaws.{length-index-items, accepted-of, stored-cleared}
-use Rattle.index.proofs.ReadLaws.{Holds, holds-first, holds-second, stored-holds, Deep}
-use Rattle.index.proofs.Theorems.{rootBox, Nested, nested, index-deep}
+use Rattle.index.proofs.GrowLaws.{length-index-items, accepted-of, grown-lent, holding-cleared}
+use Rattle.index.proofs.Theorems.{rootBox, Nested, nested, index-stands}
 use Rattle.meeting.specs.Meeting.{apart, meetingOf, visitedOf}
-use Rattle.meeting.specs.Walk.{hits, found, Put}
-use Rattle.meeting.specs.Answers.{meetingTested, Listed}
-use Rattle.meeting.proofs.WalkLaws.{hits-apart, hits-leaf, hits-inner}
+use Rattle.meeting.specs.Walk.{hits, found}
+use Rattle.meeting.specs.Answers.{MeetingLent, meetingTested, listing, meetingOutcome}
+use Rattle.meeting.proofs.WalkLaws.{Puts, put-list, put-place, hits-level}
 
 -- ---- leaf boxes alone decide
 or-true : (a b c d a′ b′ c′ d′ : Bool) → (a ≡ true → a′ ≡ true) → (b ≡ true → b′ ≡ true) → (c ≡ true → c′ ≡ true) → (d ≡ true → d′ ≡ true)
@@ -88,97 +93,84 @@ module _ (c : Bounds) where
       let v = length-append (itemsOf l) (itemsOf r) in
       omega arith
 
-  -- ---- the walk of a buffer that holds a tree
-  visited-leaf : (b : Bounds) (is : List ℕ) (x : Bool) → apart b c ≡ x → visitedOf c (leaf b is) ≡ cond x [] is
+  -- ---- the walk of a buffer in which a tree stands
+  visited-leaf : (b : Bounds) (is : List ℕ) → visitedOf c (leaf b is) ≡ cond (apart b c) [] is
   unfolding visitedOf
-  visited-leaf b is x e = rw e
+  visited-leaf b is = refl
 
-  visited-inner : (b : Bounds) (l r : Tree) (x : Bool) → apart b c ≡ x → visitedOf c (inner b l r) ≡ cond x [] (visitedOf c l ++ visitedOf c r)
+  visited-inner : (b : Bounds) (l r : Tree) → visitedOf c (inner b l r) ≡ cond (apart b c) [] (visitedOf c l ++ visitedOf c r)
   unfolding visitedOf
-  visited-inner b l r x e = rw e
+  visited-inner b l r = refl
 
-  never-zero : (d : ℕ) → suc d ≡ 0 → ⊥
-  never-zero d e = omega arith
-
-  module _ (B : List Float) (L I : List ℕ) where
-    leaf-hits : (d at n next : ℕ) (b : Bounds) (is : List ℕ) → Holds B L I (leaf b is) at n next → 0 < length is → (x : Bool) → apart b c ≡ x → hits (suc d) B L I c n ≡ visitedOf c (leaf b is)
-    unfolding nodeOf itemsOf
-    leaf-hits d at n next b is h s x e = go x e (ap (λ (a : Bounds). apart a c) (h .own .box) ∙ e)
-      where
-        go : (x : Bool) → apart b c ≡ x → apart (boxAt B n) c ≡ x → hits (suc d) B L I c n ≡ visitedOf c (leaf b is)
-        go true e f = sym (hits-apart B L I c n (suc d) f) ∙ sym (visited-leaf b is true e)
-        go false e f =
-            sym (hits-leaf B L I c n (suc d) at (length is) (never-zero d) f (sym (h .own .first)) (sym (h .own .count)) s) ∙ h .items ∙ sym (visited-leaf b is false e)
-
-    inner-hits : (d at n next : ℕ) (b : Bounds) (l r : Tree) → Holds B L I (inner b l r) at n next → hits d B L I c next ≡ visitedOf c l → hits d B L I c (next + 1) ≡ visitedOf c r
-        → (x : Bool) → apart b c ≡ x → hits (suc d) B L I c n ≡ visitedOf c (inner b l r)
-    unfolding nodeOf
-    inner-hits d at n next b l r h p q x e = go x e (ap (λ (a : Bounds). apart a c) (h .own .box) ∙ e)
-      where
-        less : suc d - 1 ≡ d
-        less = omega arith
-
-        go : (x : Bool) → apart b c ≡ x → apart (boxAt B n) c ≡ x → hits (suc d) B L I c n ≡ visitedOf c (inner b l r)
-        go true e f = sym (hits-apart B L I c n (suc d) f) ∙ sym (visited-inner b l r true e)
-        go false e f =
-            sym (hits-inner B L I c n (suc d) next 0 (never-zero d) f (sym (h .own .first)) (sym (h .own .count)) (omega arith))
-            ∙ rw (less, p, q) (sym (visited-inner b l r false e))
-
-    pub hits-is : (t : Tree) (d at n next : ℕ) → Holds B L I t at n next → Deep d t → hits d B L I c n ≡ visitedOf c t
-    unfolding Deep
-    hits-is t zero at n next h f = absurd f
-    hits-is (leaf b is) (suc d) at n next h f = leaf-hits d at n next b is h f (apart b c) refl
-    hits-is (inner b l r) (suc d) at n next h f =
-        inner-hits d at n next b l r h (hits-is l d at next (next + 2) (holds-first B L I b l r at n next h) (f .0))
-        (hits-is r d (at + length (itemsOf l)) (next + 1) (next + 2 + extra l) (holds-second B L I b l r at n next h) (f .1)) (apart b c) refl
+  pub hits-is : (B : IndexBuffer) (t : Tree) (d n : ℕ) → Stands B n t → levels t ≤ d → hits d B c n ≡ visitedOf c t
+  unfolding Stands levels
+  hits-is B (leaf b is) zero n s h = absurd (omega arith)
+  hits-is B (inner b l r) zero n s h = absurd (omega arith)
+  hits-is B (leaf b is) (suc d) n s h = rw (hits-level B c n d, s .0, lt-ltb 0 (countAt (B .links) n) (s .1), s .2, visited-leaf b is)
+  hits-is B (inner b l r) (suc d) n s h =
+      let f = firstAt (B .links) n in
+      let p = hits-is B l d f (s .3) (omega arith) in
+      let q = hits-is B r d (f + 1) (s .4) (omega arith) in
+      let none : countAt (B .links) n ≡ 0 = s .1 in
+      rw (hits-level B c n d, s .0, le-ltb 0 (countAt (B .links) n) (omega arith), p, q, visited-inner b l r)
 
 -- ---- what the call leaves
 no-items : (xs : List ℕ) → length xs ≤ 0 → xs ≡ []
 no-items [] h = refl
 no-items (x ∷ xs) h = absurd (omega arith)
 
-module _ (v : List Float) (c : Bounds) (passed : boxesTested v ≡ Passed) (C : List Float) (L is : List ℕ) where
-  -- the walk finds what `meeting` says
-  pub found-is : found (length v) (atFront (flatMap cornersOf (nodesOf (indexOf v))) C) (atFront (flatMap linksOf (nodesOf (indexOf v))) L) (atFront (itemsOf (indexOf v)) is) c ≡ meetingOf c (indexOf v)
+module _ (v : List Float) (c : Bounds) (passed : boxesTested v ≡ Passed) (B : IndexBuffer) where
+  -- the walk of the index finds what `meeting` says
+  pub found-is : (d : ℕ) → levels (indexOf v) ≤ d → found d (length v) (holding (indexOf v) B) c ≡ meetingOf c (indexOf v)
   unfolding found
-  found-is = go (eqb (length v) 0) refl
+  found-is d h = go (eqb (length v) 0) refl
     where
-      B : List Float
-      B = atFront (flatMap cornersOf (nodesOf (indexOf v))) C
-
-      K : List ℕ
-      K = atFront (flatMap linksOf (nodesOf (indexOf v))) L
-
-      I : List ℕ
-      I = atFront (itemsOf (indexOf v)) is
-
-      go : (b : Bool) → eqb (length v) 0 ≡ b → cond b [] (hits 9 B K I c 0) ≡ meetingOf c (indexOf v)
+      go : (b : Bool) → eqb (length v) 0 ≡ b → cond b [] (hits d (holding (indexOf v) B) c 0) ≡ meetingOf c (indexOf v)
       go true e =
           let z : length v ≡ 0 = eqb-true (length v) 0 e in
           let n = length-index-items v in
           let l = length-meeting c (indexOf v) in
           sym (no-items (meetingOf c (indexOf v)) (omega arith))
-      go false e =
-          hits-is c B K I (indexOf v) 9 0 0 1 (stored-holds (indexOf v) C L is) (index-deep v passed (eqb-false (length v) 0 e)) ∙ visited-is c (indexOf v) (nested v passed)
+      go false e = hits-is c (holding (indexOf v) B) (indexOf v) d 0 (index-stands v B passed (eqb-false (length v) 0 e)) h ∙ visited-is c (indexOf v) (nested v passed)
 
-  pub listed-of : (C₁ C₂ : List Float) (L₁ L₂ is₁ is₂ S S′ : List ℕ) (k r : ℕ) → Accepted v (length C) (length L) (length is) → 1024 ≤ length S → Stored (indexOf v) C L is k C₁ L₁ is₁
-      → Put S 0 (found (length v) C₁ L₁ is₁ c) S′ r → Cleared C₁ L₁ is₁ C₂ L₂ is₂ → Listed v c C L is S r C₂ L₂ is₂ S′
-  unfolding atFront
-  listed-of C₁ C₂ L₁ L₂ is₁ is₂ S S′ k r A room s p z =
+  pub listed-of : (d : ℕ) (D E : IndexBuffer) (S S′ : List ℕ) (k r : ℕ) → levels (indexOf v) ≤ d → Accepted v (length (B .corners)) (length (B .links)) (length (B .items)) → 1024 ≤ length S
+      → record { answer = k; lent = D } ≡ grown (indexOf v) B → Puts S 0 (found d (length v) D c) S′ r → E ≡ cleared D
+      → record { answer = r; lent = record { buffer = E; list = S′ } } ≡ listing v c B S
+  unfolding listing atFront
+  listed-of d D E S S′ k r deep A room g p z =
       let t = indexOf v in
-      let same : found (length v) C₁ L₁ is₁ c ≡ meetingOf c t = rw (s .corners, s .links, s .items) found-is in
+      let held : D ≡ holding t B = grown-lent t B g in
+      let same : found d (length v) D c ≡ meetingOf c t = rw held (found-is d deep) in
       let size = A .size in
       let n = length-index-items v in
       let m = length-meeting c t in
-      let q : Put S 0 (meetingOf c t) S′ r = rw same at p in
-      let place = q .place in
-      record { count = omega arith; list = q .list ∙ sets-front S (meetingOf c t) (omega arith); cleared = stored-cleared v C L is k C₁ L₁ is₁ C₂ L₂ is₂ A s z }
+      let q : Puts S 0 (meetingOf c t) S′ r = rw same at p in
+      let place = put-place S 0 (meetingOf c t) S′ r q in
+      let count : r ≡ length (meetingOf c t) = omega arith in
+      let list = put-list S 0 (meetingOf c t) S′ r q ∙ sets-front S (meetingOf c t) (omega arith) in
+      let clean : E ≡ cleared B = z ∙ rw held (holding-cleared v B A) in
+      rw (count, list, clean)
 
--- what a call that passes the tests has
-pub meeting-accepted : (v : List Float) (c : Bounds) (corners links items list : ℕ) → meetingTested v c corners links items list ≡ Passed → Accepted v corners links items × (boxesTested v ≡ Passed) × (1024 ≤ list)
-unfolding meetingTested
-meeting-accepted v c corners links items list e =
-    let p = room-passed (shortIndex corners links items || ltb list 1024) (cellTested c (boxesTested v)) e in
-    let b = cell-passed c (boxesTested v) (p .1) in
-    let s = or-none (shortIndex corners links items) (ltb list 1024) (p .0) in
-    (accepted-of v corners links items (s .0) b, b, ltb-false list 1024 (s .1))
+module _ (v : List Float) (c : Bounds) (B : IndexBuffer) (S : List ℕ) where
+  -- what a call that passes the tests has
+  pub meeting-accepted : {t : Test} → t ≡ meetingTested v c B S → t ≡ Passed → Accepted v (length (B .corners)) (length (B .links)) (length (B .items)) × (boxesTested v ≡ Passed) × (1024 ≤ length S)
+  unfolding meetingTested
+  meeting-accepted tested e =
+      let cell = boxesTested v refusing BadBox when not (boxFits c) in
+      let list = refusing-passed (cell refusing ShortBuffer when shortBuffer B) ShortBuffer (ltb (length S) 1024) (sym tested ∙ e) in
+      let room = refusing-passed cell ShortBuffer (shortBuffer B) (list .0) in
+      let boxes = refusing-passed (boxesTested v) BadBox (not (boxFits c)) (room .0) .0 in
+      (accepted-of v (length (B .corners)) (length (B .links)) (length (B .items)) (room .1) boxes, boxes, ltb-false (length S) 1024 (list .1))
+
+  pub listing-count : {r : ℕ} {M : MeetingLent} → record { answer = r; lent = M } ≡ listing v c B S → r ≡ length (meetingOf c (indexOf v))
+  unfolding listing
+  listing-count e = ap (λ (o : Outcome ℕ MeetingLent). o .answer) e
+
+  -- what every call leaves
+  pub met : {t : Test} {r : ℕ} {M : MeetingLent} → t ≡ meetingTested v c B S → t ≡ Passed → record { answer = r; lent = M } ≡ listing v c B S → record { answer = Told r; lent = M } ≡ meetingOutcome v c B S
+  unfolding meetingOutcome
+  met tested e l = rw (← tested, e) (ap (λ (o : Outcome ℕ MeetingLent). record { answer = Told (o .answer); lent = o .lent }) l)
+
+  pub meeting-refused : {t : Test} {r : Refusal} → t ≡ meetingTested v c B S → t ≡ Failed r → record { answer = Refused r; lent = record { buffer = B; list = S } } ≡ meetingOutcome v c B S
+  unfolding meetingOutcome
+  meeting-refused tested e = rw (← tested, e)

@@ -1,57 +1,54 @@
--- The tests of `meeting`, in document 01's order, and what the call answers and leaves. Definitions only.
+-- The tests of `meeting`, in document 01's order, and all that the call leaves. Definitions only.
 use mathlib.Core.Path.{_≡_}
-use mathlib.Core.Bool.{_||_}
+use mathlib.Core.Bool.{not}
 use mathlib.Core.List.{List}
 use Prim.Native.Nat.{ℕ}
 use lib.Dec.{ltb}
 use lib.ListN.{length}
 use lib.Ieee.{Float}
-use Rattle.number.specs.Exact.{zeroᶠ}
 use Rattle.boundary.specs.declared.Bounds.{Bounds}
+use Rattle.boundary.specs.Boxes.{boxFits}
 use Rattle.accept.specs.declared.Answer.{Answer}
-use Rattle.accept.specs.declared.Answer.the-variants.{Told}
+use Rattle.accept.specs.declared.CountFields.{CountFields}
+use Rattle.accept.specs.declared.Answer.the-variants.{Refused, Told}
+use Rattle.accept.specs.declared.Refusal.the-variants.{BadBox, ShortBuffer}
 use Rattle.accept.specs.declared.Test.{Test}
-use Rattle.accept.specs.Refusals.{cellTested, roomTested}
-use Rattle.accept.specs.Answers.{answerFor}
-use Rattle.lists.specs.Lists.{atFront, zeros}
-use Rattle.accept.specs.Lists.{writtenFor}
+use Rattle.accept.specs.Answers.{Outcome, countFields, inFields}
+use Rattle.lists.specs.Lists.{atFront}
+use Rattle.accept.specs.Refusals.{given, _refusing_when_}
 use Rattle.splits.specs.Tree.{indexOf}
-use Rattle.index.specs.Answers.{boxesTested, shortIndex, Cleared}
+use Rattle.index.specs.Buffer.{IndexBuffer, shortBuffer, cleared}
+use Rattle.index.specs.Answers.{boxesTested}
 use Rattle.meeting.specs.Meeting.{meetingOf}
 
--- tests 4, 11 and 13; the list has 1,024 places
-unfoldable pub meetingTested : List Float → Bounds → ℕ → ℕ → ℕ → ℕ → Test
-unfolding boxesTested cellTested roomTested
-meetingTested v c corners links items list = roomTested (shortIndex corners links items || ltb list 1024) (cellTested c (boxesTested v))
+-- ---- by what the call is lent: the boxes v and the cell c, an index buffer B to work in, and the list S for the items, of 1,024 places
+-- tests 4, 11 and 13
+unfoldable pub meetingTested : List Float → Bounds → IndexBuffer → List ℕ → Test
+unfolding boxesTested boxFits _refusing_when_
+meetingTested v c B S =
+    boxesTested v
+    refusing BadBox when not (boxFits c)
+    refusing ShortBuffer when shortBuffer B
+    refusing ShortBuffer when ltb (length S) 1024
 
--- ---- by what the call is lent: the boxes and the cell, the lists C, L and I for corners, links and items, and the list S for the answer
-abbrev pub lentTested : List Float → Bounds → List Float → List ℕ → List ℕ → List ℕ → Test
-lentTested v c C L I S = meetingTested v c (length C) (length L) (length I) (length S)
+pub record MeetingLent : Type 0 where
+  pub buffer : IndexBuffer
+  pub list : List ℕ
 
--- what it answers: the number of items listed
-unfoldable pub meetingAnswer : List Float → Bounds → List Float → List ℕ → List ℕ → List ℕ → Answer
-unfolding answerFor meetingTested meetingOf
-meetingAnswer v c C L I S = answerFor (lentTested v c C L I S) (Told (length (meetingOf c (indexOf v))))
+-- what a call that passes them leaves: how many items there are, the buffer cleared, and the items at the front of the list
+unfoldable pub listing : List Float → Bounds → IndexBuffer → List ℕ → Outcome ℕ MeetingLent
+listing v c B S = record {
+  answer = length (meetingOf c (indexOf v));
+  lent = record { buffer = cleared B; list = atFront (meetingOf c (indexOf v)) S };
+}
 
--- what it leaves in the lists: zeros in the working buffers' 511 nodes and 1,024 items, and the items listed
-unfoldable pub meetingCorners : List Float → Bounds → List Float → List ℕ → List ℕ → List ℕ → List Float
-unfolding writtenFor meetingTested
-meetingCorners v c C L I S = writtenFor (zeros zeroᶠ 2044) C (lentTested v c C L I S)
+-- what every call leaves
+unfoldable pub meetingOutcome : List Float → Bounds → IndexBuffer → List ℕ → Outcome Answer MeetingLent
+unfolding meetingTested given listing
+meetingOutcome v c B S = given (meetingTested v c B S)
+    (record { answer = Told (listing v c B S .answer); lent = listing v c B S .lent })
+    (λ r. record { answer = Refused r; lent = record { buffer = B; list = S } })
 
-unfoldable pub meetingLinks : List Float → Bounds → List Float → List ℕ → List ℕ → List ℕ → List ℕ
-unfolding writtenFor meetingTested
-meetingLinks v c C L I S = writtenFor (zeros 0 1022) L (lentTested v c C L I S)
-
-unfoldable pub meetingItems : List Float → Bounds → List Float → List ℕ → List ℕ → List ℕ → List ℕ
-unfolding writtenFor meetingTested
-meetingItems v c C L I S = writtenFor (zeros 0 1024) I (lentTested v c C L I S)
-
-unfoldable pub meetingList : List Float → Bounds → List Float → List ℕ → List ℕ → List ℕ → List ℕ
-unfolding writtenFor meetingTested meetingOf
-meetingList v c C L I S = writtenFor (meetingOf c (indexOf v)) S (lentTested v c C L I S)
-
--- what accepting a call leaves: the items at the front of the list, and a working buffer that is cleared
-pub record Listed (v : List Float) (c : Bounds) (C : List Float) (L is S : List ℕ) (r : ℕ) (C′ : List Float) (L′ is′ S′ : List ℕ) : Type 0 where
-  pub count : r ≡ length (meetingOf c (indexOf v))
-  pub list : S′ ≡ atFront (meetingOf c (indexOf v)) S
-  pub cleared : Cleared C L is C′ L′ is′
+-- the same, with the answer in its fields
+abbrev pub meetingCall : List Float → Bounds → IndexBuffer → List ℕ → Outcome CountFields MeetingLent
+meetingCall v c B S = inFields countFields (meetingOutcome v c B S)

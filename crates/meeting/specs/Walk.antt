@@ -1,33 +1,32 @@
--- What a walk of an index buffer lists: corners, links and items of nodes below one another. Definitions only.
+-- What a walk of an index buffer lists. Definitions only.
 use mathlib.Core.Bool.{cond}
 use mathlib.Core.List.{List, [], _++_}
-use mathlib.Core.Path.{_≡_}
 use Prim.Native.Nat.{ℕ, zero, suc, _+_, min}
 use lib.Dec.{eqb, ltb}
 use lib.ListN.{length}
 use lib.Seq.{sets}
-use lib.Ieee.{Float}
 use Rattle.boundary.specs.declared.Bounds.{Bounds}
 use Rattle.lists.specs.Lists.{run}
+use Rattle.accept.specs.Answers.{Outcome}
 use Rattle.entries.specs.Entries.{boxAt}
-use Rattle.nodes.specs.Layout.{itemAt, firstAt, countAt}
+use Rattle.nodes.specs.Layout.{firstAt, countAt}
+use Rattle.index.specs.Buffer.{IndexBuffer, nodeBox, leafItems}
 use Rattle.meeting.specs.Meeting.{apart}
 
 -- what the walk lists below node n, d levels at most
-unfoldable pub hits : ℕ → List Float → List ℕ → List ℕ → Bounds → ℕ → List ℕ
+unfoldable pub hits : ℕ → IndexBuffer → Bounds → ℕ → List ℕ
 unfolding apart run boxAt
-hits zero B L I c n = []
-hits (suc d) B L I c n =
-    let l = hits d B L I c (firstAt L n) in
-    let r = hits d B L I c (firstAt L n + 1) in
-    cond (apart (boxAt B n) c) [] (cond (ltb 0 (countAt L n)) (run (itemAt I) (firstAt L n) (countAt L n)) (l ++ r))
+hits zero B c n = []
+hits (suc d) B c n =
+    let l = hits d B c (firstAt (B .links) n) in
+    let r = hits d B c (firstAt (B .links) n + 1) in
+    cond (apart (nodeBox B n) c) [] (cond (ltb 0 (countAt (B .links) n)) (leafItems B n) (l ++ r))
 
--- what it lists from the root on, nine levels at most: nothing where there are no boxes
-unfoldable pub found : ℕ → List Float → List ℕ → List ℕ → Bounds → List ℕ
+-- what it lists from the root on, where the boxes are n numbers: nothing where there are none
+unfoldable pub found : ℕ → ℕ → IndexBuffer → Bounds → List ℕ
 unfolding hits
-found n B L I c = cond (eqb n 0) [] (hits 9 B L I c 0)
+found d n B c = cond (eqb n 0) [] (hits d B c 0)
 
--- xs stored in l from k on gives m, and r is the place after it: what is past the end is not stored
-pub record Put (l : List ℕ) (k : ℕ) (xs m : List ℕ) (r : ℕ) : Type 0 where
-  pub list : m ≡ sets l k xs
-  pub place : r ≡ min (length l) (k + length xs)
+-- xs put into l from the place k on, as far as there is room: the place after them, and the list
+unfoldable pub putFrom : List ℕ → ℕ → List ℕ → Outcome ℕ (List ℕ)
+putFrom l k xs = record { answer = min (length l) (k + length xs); lent = sets l k xs }

@@ -1,26 +1,36 @@
 // `meeting` (index.rs): the items of the leaves that share a point with a cell.
 ghost use mathlib.Core.Path.{_≡_};
-ghost use Prim.Native.Nat.{_+_, _≤_, _<_, _^_, min};
-ghost use lib.ListN.{length, set};
+ghost use mathlib.Core.Bool.{not};
+ghost use mathlib.Core.List.{_∷_, []};
+ghost use Prim.Native.Nat.{_+_, _≤_, _<_, _^_};
+ghost use lib.Dec.{ltb};
+ghost use lib.ListN.{length};
+ghost use Rattle.boundary.specs.Boxes.{boxFits};
 ghost use Rattle.lists.specs.Lists.{run};
+ghost use Rattle.accept.specs.declared.Refusal.the-variants.{BadBox, ShortBuffer};
 ghost use Rattle.accept.specs.declared.Test.the-variants.{Passed};
+ghost use Rattle.accept.specs.Refusals.{_refusing_when_};
 ghost use Rattle.entries.specs.Entries.{boxAt};
 ghost use Rattle.nodes.specs.Layout.{itemAt};
+ghost use Rattle.index.specs.Buffer.{buffer, shortSizes};
 ghost use Rattle.index.specs.Answers.{boxesTested, Accepted};
 ghost use Rattle.meeting.specs.Meeting.{apart};
-ghost use Rattle.meeting.specs.Walk.{hits, found, Put};
-ghost use Rattle.meeting.specs.Answers.{meetingTested, meetingAnswer, meetingCorners, meetingLinks, meetingItems, meetingList, Listed};
+ghost use Rattle.meeting.specs.Walk.{hits, found, putFrom};
+ghost use Rattle.meeting.specs.Answers.{listing, meetingOutcome};
 use accept::Answer;
+use accept::Refusal;
 use accept::Test;
-use accept::refusals;
+use accept::refusals::box_fits;
+use accept::refusals::refusing;
 use boundary::Bounds;
 use index::refusals::boxes_tested;
 use index::refusals::short_index;
+use index::tree;
 
 // Stores x at k, where there is room, and gives the next place.
 fn push(list: &mut [u32], k: usize, x: u32) -> usize
     requires { ⌜ k ≤ length (now list) ⌝ }
-    ensures { λ r. ⌜ (now (list .exit) ≡ set (now (list .entry)) k x) × (r ≡ min (length (now (list .entry))) (k + 1)) ⌝ }
+    ensures { λ r. ⌜ record { answer = r; lent = now (list .exit) } ≡ putFrom (now (list .entry)) k (x ∷ []) ⌝ }
 {
     lists::put(list, k, x);
     if k < list.len() { k + 1 } else { k }
@@ -29,7 +39,7 @@ fn push(list: &mut [u32], k: usize, x: u32) -> usize
 // Stores a leaf's items from the place k on, and gives the next place.
 fn copy(items: &[u32], first: usize, count: usize, list: &mut [u32], k: usize) -> usize
     requires { ⌜ (first + count < 2 ^ 40) × (k ≤ length (now list)) ⌝ }
-    ensures { λ r. ⌜ Put (now (list .entry)) k (run (itemAt (now (items .entry))) first count) (now (list .exit)) r ⌝ }
+    ensures { λ r. ⌜ record { answer = r; lent = now (list .exit) } ≡ putFrom (now (list .entry)) k (run (itemAt (now (items .entry))) first count) ⌝ }
 {
     let mut i = 0;
     let mut j = k;
@@ -62,7 +72,8 @@ fn visit(
     k: usize,
 ) -> usize
     requires { ⌜ (n ≤ 2 ^ 32) × (k ≤ length (now list)) ⌝ }
-    ensures { λ r. ⌜ Put (now (list .entry)) k (hits depth (now (corners .entry)) (now (links .entry)) (now (items .entry)) c n) (now (list .exit)) r ⌝ }
+    ensures { λ r. ⌜ record { answer = r; lent = now (list .exit) }
+        ≡ putFrom (now (list .entry)) k (hits depth (buffer (now (corners .entry)) (now (links .entry)) (now (items .entry))) c n) ⌝ }
 {
     if depth == 0 {
         return k;
@@ -79,21 +90,23 @@ fn visit(
     visit(corners, links, items, depth - 1, first + 1, c, list, j)
 }
 
-// The walk from the root, nine levels deep at most, where there are boxes: n counts their numbers.
+// The walk from the root, at most `depth` levels deep, where there are boxes: n counts their numbers.
 fn walk(
     n: usize,
+    depth: usize,
     corners: &[f64],
     links: &[u32],
     items: &[u32],
     c: Bounds,
     list: &mut [u32],
 ) -> usize
-    ensures { λ r. ⌜ Put (now (list .entry)) 0 (found n (now (corners .entry)) (now (links .entry)) (now (items .entry)) c) (now (list .exit)) r ⌝ }
+    ensures { λ r. ⌜ record { answer = r; lent = now (list .exit) }
+        ≡ putFrom (now (list .entry)) 0 (found depth n (buffer (now (corners .entry)) (now (links .entry)) (now (items .entry))) c) ⌝ }
 {
     if n == 0 {
         return 0;
     }
-    visit(corners, links, items, 9, 0, c, list, 0)
+    visit(corners, links, items, depth, 0, c, list, 0)
 }
 
 // Lists what meets the cell; the index is built in the lent buffers, and cleared.
@@ -107,21 +120,28 @@ pub fn listed(
 ) -> usize
     requires { ⌜ Accepted (now boxes) (length (now corners)) (length (now links)) (length (now items))
         × (boxesTested (now boxes) ≡ Passed) × (1024 ≤ length (now list)) ⌝ }
-    ensures { λ r. ⌜ Listed (now (boxes .entry)) c (now (corners .entry)) (now (links .entry)) (now (items .entry)) (now (list .entry))
-        r (now (corners .exit)) (now (links .exit)) (now (items .exit)) (now (list .exit)) ⌝ }
+    ensures { λ r. ⌜ record { answer = r; lent = record { buffer = buffer (now (corners .exit)) (now (links .exit)) (now (items .exit)); list = now (list .exit) } }
+        ≡ listing (now (boxes .entry)) c (buffer (now (corners .entry)) (now (links .entry)) (now (items .entry))) (now (list .entry)) ⌝ }
 {
-    index::tree::grow_or_leaf(boxes, corners, links, items);
-    let count = walk(boxes.len(), corners, links, items, c, list);
-    index::tree::clear(corners, links, items);
+    tree::grow_or_leaf(boxes, corners, links, items);
+    let count = walk(boxes.len(), tree::LEVELS, corners, links, items, c, list);
+    tree::clear(corners, links, items);
     count
 }
 
-// The tests of `meeting`.
+// The tests of `meeting`, in lists of so many corner numbers, link numbers and items, and for so many
+// items listed.
 fn tested(boxes: &[f64], c: Bounds, corners: usize, links: usize, items: usize, list: usize) -> Test
-    ensures { λ r. ⌜ r ≡ meetingTested (now (boxes .entry)) c corners links items list ⌝ }
+    ensures { λ r. ⌜ r ≡ (boxesTested (now (boxes .entry)) refusing BadBox when not (boxFits c)
+        refusing ShortBuffer when shortSizes corners links items refusing ShortBuffer when ltb list 1024) ⌝ }
 {
-    let t = refusals::cell_tested(c, boxes_tested(boxes));
-    refusals::room_tested(short_index(corners, links, items) | (list < 1024), t)
+    let cell = refusing(boxes_tested(boxes), Refusal::BadBox, !box_fits(c));
+    let room = refusing(
+        cell,
+        Refusal::ShortBuffer,
+        short_index(corners, links, items),
+    );
+    refusing(room, Refusal::ShortBuffer, list < 1024)
 }
 
 // The items of each leaf of the boxes' index whose box shares a point with the cell.
@@ -133,11 +153,8 @@ pub fn meeting(
     items: &mut [u32],
     list: &mut [u32],
 ) -> Answer
-    ensures { λ r. ⌜ (r ≡ meetingAnswer (now (boxes .entry)) c (now (corners .entry)) (now (links .entry)) (now (items .entry)) (now (list .entry)))
-        × (now (corners .exit) ≡ meetingCorners (now (boxes .entry)) c (now (corners .entry)) (now (links .entry)) (now (items .entry)) (now (list .entry)))
-        × (now (links .exit) ≡ meetingLinks (now (boxes .entry)) c (now (corners .entry)) (now (links .entry)) (now (items .entry)) (now (list .entry)))
-        × (now (items .exit) ≡ meetingItems (now (boxes .entry)) c (now (corners .entry)) (now (links .entry)) (now (items .entry)) (now (list .entry)))
-        × (now (list .exit) ≡ meetingList (now (boxes .entry)) c (now (corners .entry)) (now (links .entry)) (now (items .entry)) (now (list .entry))) ⌝ }
+    ensures { λ r. ⌜ record { answer = r; lent = record { buffer = buffer (now (corners .exit)) (now (links .exit)) (now (items .exit)); list = now (list .exit) } }
+        ≡ meetingOutcome (now (boxes .entry)) c (buffer (now (corners .entry)) (now (links .entry)) (now (items .entry))) (now (list .entry)) ⌝ }
 {
     let t = tested(
         boxes,

@@ -21,14 +21,12 @@ use Rattle.lists.proofs.MemberLaws.{times-append, in-cons, in-first, in-rest}
 use Rattle.splits.specs.Tree.{Tree, leaf, inner, indexOf, itemsOf, EachNode}
 use Rattle.nodes.specs.Layout.{extra}
 use Rattle.boundary.proofs.AroundLaws.{Number}
-use Rattle.index.proofs.Theorems.{items-once}
-use Rattle.set.specs.Set.{setBoxes, Fit}
-use Rattle.set.proofs.SetLaws.{boxes-length}
+use Rattle.set.specs.Set.{Outline, setBoxes, Fitting, DoubleSet}
 use Rattle.search.specs.declared.Best.{Best}
-use Rattle.search.specs.Least.{magnitudeAt, leastOf}
-use Rattle.search.specs.Walk.{improved, bestOf, Doubles}
+use Rattle.search.specs.Least.{magnitudeAt, leastOf, leastIn}
+use Rattle.search.specs.Walk.{improved, bestOf}
 use Rattle.search.proofs.LeastLaws.{Upto, Among, among-this, upto-this, best-is, least-of, least-only}
-use Rattle.search.proofs.GapLaws.{Gapped, Nearby, magnitude-number, index-gaps}
+use Rattle.search.proofs.GapLaws.{Gapped, Nearby, magnitude-number, tree-gaps, index-has, index-covers, index-held}
 use Rattle.search.proofs.SetSearch.{gap-number}
 use Rattle.nearest.specs.declared.Nearest.{Nearest}
 use Rattle.nearest.specs.declared.Nearest.the-variants.{Refused, None, At}
@@ -278,29 +276,29 @@ module _ (D : ℕ → Float) (n : ℕ) (p : Point) where
         out (more q qs) = out-is Good good-number x xs q qs
 
 -- ---- over a set
-module _ (v : List Float) (cs : List ℕ) (p : Point) (fit : Fit v cs) (held : Doubles v) (P : FieldPoint p) where
+module _ (os : List Outline) (p : Point) (fit : Fitting os) (held : DoubleSet os) (P : FieldPoint p) where
   abbrev t : Tree
-  t = indexOf (setBoxes v cs)
+  t = indexOf (setBoxes os)
 
-  root-walking : 0 < length cs → Walking (magnitudeAt v cs p) (length cs) p (1 + extra t) (waitingFor p 0 1 t ∷ []) None
+  root-walking : 0 < length os → Walking (magnitudeAt os p) (length os) p (1 + extra t) (waitingFor p 0 1 t ∷ []) None
   unfolding sum
   root-walking s = record {
     turns = omega arith;
-    good = more (record { gap = refl; near = index-gaps v cs p fit held P s }) none;
+    good = more (record { gap = refl; near = tree-gaps os fit held p P t (index-covers os fit held) (index-held os fit held s) }) none;
     state = tt;
-    cover = λ i l z. let n = boxes-length v cs in let o = items-once (setBoxes v cs) i .0 (omega arith) in absurd (omega arith);
+    cover = λ i l z. let o = index-has os fit held i l in absurd (omega arith);
   }
 
   -- THE WALK gives the nearest answer
-  pub walk-is : walkOf v cs p ≡ nearestIn v cs p
+  pub walk-is : walkOf os p ≡ nearestIn os p
   unfolding walkOf nearestIn
-  walk-is = go (eqb (length cs) 0) refl
+  walk-is = go (eqb (length os) 0) refl
     where
       above : (n : ℕ) → (n ≡ 0 → ⊥) → 0 < n
       above n h = omega arith
 
-      go : (b : Bool) → eqb (length cs) 0 ≡ b → cond b None (walkOn (1 + extra t) (magnitudeAt v cs p) p (waitingFor p 0 1 t ∷ []) None) ≡ cond b None (At (leastOf (magnitudeAt v cs p) (length cs)))
+      go : (b : Bool) → eqb (length os) 0 ≡ b → cond b None (walkOn (1 + extra t) (magnitudeAt os p) p (waitingFor p 0 1 t ∷ []) None) ≡ cond b None (At (leastIn os p))
       go true e = refl
       go false e =
-          let s = above (length cs) (eqb-false (length cs) 0 e) in
-          walk-on (magnitudeAt v cs p) (length cs) p s (λ k l. magnitude-number v cs p fit held P k (omega arith)) (1 + extra t) (waitingFor p 0 1 t ∷ []) None (root-walking s)
+          let s = above (length os) (eqb-false (length os) 0 e) in
+          walk-on (magnitudeAt os p) (length os) p s (λ k l. magnitude-number os fit held p P k (omega arith)) (1 + extra t) (waitingFor p 0 1 t ∷ []) None (root-walking s)

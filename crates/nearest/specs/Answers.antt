@@ -1,21 +1,21 @@
--- What the nearest query answers and leaves. Its tests, and what its working buffers hold then, are those of every query over a set. Definitions only.
+-- All that the nearest query leaves: its answer, and the index buffer that it works in. Definitions only.
 use mathlib.Core.List.{List}
 use Prim.Native.Nat.{ℕ}
 use lib.Ieee.{Float}
 use Rattle.boundary.specs.declared.Point.{Point}
-use Rattle.accept.specs.declared.Test.{Test}
-use Rattle.accept.specs.declared.Test.the-variants.{Passed, Failed}
-use Rattle.set.specs.Tests.{setQueryTested}
-use Rattle.set.specs.Answers.{queryTested}
+use Rattle.accept.specs.Answers.{Outcome, inFields}
+use Rattle.index.specs.Buffer.{IndexBuffer}
+use Rattle.set.specs.Set.{outlinesOf}
+use Rattle.set.specs.Answers.{queryOutcome}
 use Rattle.nearest.specs.declared.Nearest.{Nearest}
 use Rattle.nearest.specs.declared.Nearest.the-variants.{Refused}
-use Rattle.nearest.specs.Nearest.{nearestIn}
+use Rattle.nearest.specs.declared.NearestFields.{NearestFields}
+use Rattle.nearest.specs.Nearest.{nearestIn, nearestFields}
 
--- the answer where the tests are passed, and the refusal where they are not
-unfoldable pub nearestFor : Nearest → Test → Nearest
-nearestFor a Passed = a
-nearestFor a (Failed r) = Refused r
+-- over the set that v and cs are, at p, with the index buffer B
+unfoldable pub nearestOutcome : List Float → List ℕ → Point → IndexBuffer → Outcome Nearest IndexBuffer
+nearestOutcome v cs p B = queryOutcome v cs p B (nearestIn (outlinesOf v cs) p) Refused
 
-unfoldable pub nearestAnswer : List Float → List ℕ → Point → List Float → List ℕ → List ℕ → Nearest
-unfolding setQueryTested nearestFor nearestIn
-nearestAnswer v cs p C L I = nearestFor (nearestIn v cs p) (queryTested v cs p C L I)
+-- the same, with the answer in its fields
+unfoldable pub nearestCall : List Float → List ℕ → Point → IndexBuffer → Outcome NearestFields IndexBuffer
+nearestCall v cs p B = inFields nearestFields (nearestOutcome v cs p B)

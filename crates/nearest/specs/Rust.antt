@@ -12,7 +12,7 @@ use Rattle.lists.specs.Lists.{fold}
 use Rattle.sorts.specs.Keys.{totalLess}
 use Rattle.splits.specs.Tree.{Tree, leaf, inner, indexOf}
 use Rattle.nodes.specs.Layout.{extra}
-use Rattle.set.specs.Set.{setBoxes}
+use Rattle.set.specs.Set.{Outline, setBoxes}
 use Rattle.search.specs.Least.{magnitudeOf, magnitudeAt}
 use Rattle.search.specs.Walk.{improved}
 use Rattle.nearest.specs.declared.Nearest.{Nearest}
@@ -83,8 +83,8 @@ walkOn (suc f) D p (x ∷ xs) best =
     cond (tooFar best (o .first .gap)) best later
 
 -- from the root on: each node is taken out once at most
-unfoldable pub walkOf : List Float → List ℕ → Point → Nearest
+unfoldable pub walkOf : List Outline → Point → Nearest
 unfolding walkOn extra indexOf setBoxes magnitudeOf gapOf
-walkOf v cs p =
-    let t = indexOf (setBoxes v cs) in
-    cond (eqb (length cs) 0) None (walkOn (1 + extra t) (magnitudeAt v cs p) p (waitingFor p 0 1 t ∷ []) None)
+walkOf os p =
+    let t = indexOf (setBoxes os) in
+    cond (eqb (length os) 0) None (walkOn (1 + extra t) (magnitudeAt os p) p (waitingFor p 0 1 t ∷ []) None)

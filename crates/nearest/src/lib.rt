@@ -6,11 +6,12 @@ ghost use mathlib.Core.Bool.{true};
 ghost use Prim.Native.Nat.{_*_, _≤_, _<_};
 ghost use lib.ListN.{length};
 ghost use Rattle.boundary.specs.Boxes.{pointInField};
-ghost use Rattle.index.specs.Answers.{Cleared};
-ghost use Rattle.set.specs.Answers.{Ready, clearedCorners, clearedLinks, clearedItems};
-ghost use Rattle.search.specs.Least.{magnitudeAt, leastOf};
+ghost use Rattle.index.specs.Buffer.{buffer};
+ghost use Rattle.set.specs.Set.{outlinesOf};
+ghost use Rattle.set.specs.Answers.{Ready, worked};
+ghost use Rattle.search.specs.Least.{leastIn};
 ghost use Rattle.nearest.specs.Nearest.{nearestIn};
-ghost use Rattle.nearest.specs.Answers.{nearestAnswer};
+ghost use Rattle.nearest.specs.Answers.{nearestOutcome};
 use accept::Refusal;
 use accept::Test;
 use boundary::Point;
@@ -19,7 +20,7 @@ use set::outlines;
 use set::refusals::query_tested;
 
 // What the query returns, and what it puts into its answer fields.
-pub struct Fields {
+pub struct NearestFields {
     pub number: u32,
     pub found: u32,
     pub outline: u32,
@@ -45,10 +46,10 @@ fn found_in(
     links: &mut [u32],
     items: &mut [u32],
 ) -> Best
-    requires { ⌜ Ready (now v) (now counts) (length (now corners)) (length (now links)) (length (now items)) × (pointInField p ≡ true)
+    requires { ⌜ Ready (now v) (now counts) (buffer (now corners) (now links) (now items)) × (pointInField p ≡ true)
         × (0 < length (now counts)) × (4 * length (now counts) ≤ length (now boxes)) × (length (now counts) ≤ length (now starts)) ⌝ }
-    ensures { λ r. ⌜ (r ≡ leastOf (magnitudeAt (now (v .entry)) (now (counts .entry)) p) (length (now (counts .entry))))
-        × Cleared (now (corners .entry)) (now (links .entry)) (now (items .entry)) (now (corners .exit)) (now (links .exit)) (now (items .exit)) ⌝ }
+    ensures { λ r. ⌜ record { answer = r; lent = buffer (now (corners .exit)) (now (links .exit)) (now (items .exit)) }
+        ≡ worked (leastIn (outlinesOf (now (v .entry)) (now (counts .entry))) p) (buffer (now (corners .entry)) (now (links .entry)) (now (items .entry))) ⌝ }
 {
     let n = 4 * counts.len();
     search::all_held(v);
@@ -71,10 +72,10 @@ fn found_few(
     links: &mut [u32],
     items: &mut [u32],
 ) -> Best
-    requires { ⌜ Ready (now v) (now counts) (length (now corners)) (length (now links)) (length (now items)) × (pointInField p ≡ true)
+    requires { ⌜ Ready (now v) (now counts) (buffer (now corners) (now links) (now items)) × (pointInField p ≡ true)
         × (0 < length (now counts)) × (length (now counts) ≤ 32) ⌝ }
-    ensures { λ r. ⌜ (r ≡ leastOf (magnitudeAt (now (v .entry)) (now (counts .entry)) p) (length (now (counts .entry))))
-        × Cleared (now (corners .entry)) (now (links .entry)) (now (items .entry)) (now (corners .exit)) (now (links .exit)) (now (items .exit)) ⌝ }
+    ensures { λ r. ⌜ record { answer = r; lent = buffer (now (corners .exit)) (now (links .exit)) (now (items .exit)) }
+        ≡ worked (leastIn (outlinesOf (now (v .entry)) (now (counts .entry))) p) (buffer (now (corners .entry)) (now (links .entry)) (now (items .entry))) ⌝ }
 {
     let mut boxes = [0.0; 128];
     let mut starts = [0; 32];
@@ -89,10 +90,10 @@ fn found_many(
     links: &mut [u32],
     items: &mut [u32],
 ) -> Best
-    requires { ⌜ Ready (now v) (now counts) (length (now corners)) (length (now links)) (length (now items)) × (pointInField p ≡ true)
+    requires { ⌜ Ready (now v) (now counts) (buffer (now corners) (now links) (now items)) × (pointInField p ≡ true)
         × (0 < length (now counts)) ⌝ }
-    ensures { λ r. ⌜ (r ≡ leastOf (magnitudeAt (now (v .entry)) (now (counts .entry)) p) (length (now (counts .entry))))
-        × Cleared (now (corners .entry)) (now (links .entry)) (now (items .entry)) (now (corners .exit)) (now (links .exit)) (now (items .exit)) ⌝ }
+    ensures { λ r. ⌜ record { answer = r; lent = buffer (now (corners .exit)) (now (links .exit)) (now (items .exit)) }
+        ≡ worked (leastIn (outlinesOf (now (v .entry)) (now (counts .entry))) p) (buffer (now (corners .entry)) (now (links .entry)) (now (items .entry))) ⌝ }
 {
     let mut boxes = [0.0; 4096];
     let mut starts = [0; 1024];
@@ -107,10 +108,10 @@ fn found(
     links: &mut [u32],
     items: &mut [u32],
 ) -> Best
-    requires { ⌜ Ready (now v) (now counts) (length (now corners)) (length (now links)) (length (now items)) × (pointInField p ≡ true)
+    requires { ⌜ Ready (now v) (now counts) (buffer (now corners) (now links) (now items)) × (pointInField p ≡ true)
         × (0 < length (now counts)) ⌝ }
-    ensures { λ r. ⌜ (r ≡ leastOf (magnitudeAt (now (v .entry)) (now (counts .entry)) p) (length (now (counts .entry))))
-        × Cleared (now (corners .entry)) (now (links .entry)) (now (items .entry)) (now (corners .exit)) (now (links .exit)) (now (items .exit)) ⌝ }
+    ensures { λ r. ⌜ record { answer = r; lent = buffer (now (corners .exit)) (now (links .exit)) (now (items .exit)) }
+        ≡ worked (leastIn (outlinesOf (now (v .entry)) (now (counts .entry))) p) (buffer (now (corners .entry)) (now (links .entry)) (now (items .entry))) ⌝ }
 {
     if counts.len() <= 32 {
         return found_few(v, counts, p, corners, links, items);
@@ -127,9 +128,9 @@ fn answered(
     links: &mut [u32],
     items: &mut [u32],
 ) -> Nearest
-    requires { ⌜ Ready (now v) (now counts) (length (now corners)) (length (now links)) (length (now items)) × (pointInField p ≡ true) ⌝ }
-    ensures { λ r. ⌜ (r ≡ nearestIn (now (v .entry)) (now (counts .entry)) p)
-        × Cleared (now (corners .entry)) (now (links .entry)) (now (items .entry)) (now (corners .exit)) (now (links .exit)) (now (items .exit)) ⌝ }
+    requires { ⌜ Ready (now v) (now counts) (buffer (now corners) (now links) (now items)) × (pointInField p ≡ true) ⌝ }
+    ensures { λ r. ⌜ record { answer = r; lent = buffer (now (corners .exit)) (now (links .exit)) (now (items .exit)) }
+        ≡ worked (nearestIn (outlinesOf (now (v .entry)) (now (counts .entry))) p) (buffer (now (corners .entry)) (now (links .entry)) (now (items .entry))) ⌝ }
 {
     if counts.len() == 0 {
         index::tree::clear(corners, links, items);
@@ -147,12 +148,10 @@ pub fn nearest_to(
     links: &mut [u32],
     items: &mut [u32],
 ) -> Nearest
-    ensures { λ r. ⌜ (r ≡ nearestAnswer (now (v .entry)) (now (counts .entry)) p (now (corners .entry)) (now (links .entry)) (now (items .entry)))
-        × (now (corners .exit) ≡ clearedCorners (now (v .entry)) (now (counts .entry)) p (now (corners .entry)) (now (links .entry)) (now (items .entry)))
-        × (now (links .exit) ≡ clearedLinks (now (v .entry)) (now (counts .entry)) p (now (corners .entry)) (now (links .entry)) (now (items .entry)))
-        × (now (items .exit) ≡ clearedItems (now (v .entry)) (now (counts .entry)) p (now (corners .entry)) (now (links .entry)) (now (items .entry))) ⌝ }
+    ensures { λ r. ⌜ record { answer = r; lent = buffer (now (corners .exit)) (now (links .exit)) (now (items .exit)) }
+        ≡ nearestOutcome (now (v .entry)) (now (counts .entry)) p (buffer (now (corners .entry)) (now (links .entry)) (now (items .entry))) ⌝ }
 {
-    let t = query_tested(v, counts, p, corners.len(), links.len(), items.len());
+    let t = query_tested(v, counts, p, corners, links, items);
     match t {
         Test::Passed => answered(v, counts, p, corners, links, items),
         Test::Failed(r) => Nearest::Refused(r),

@@ -5,12 +5,6 @@ use Prim.Native.Nat.{ℕ, suc, _<_}
 use native.Mathlib.Omega.{arith}
 use lib.ListN.{length, getD, set, take, drop}
 use lib.Seq.{take-suc, drop-cons, set-at, append-snoc, length-take-le}
-use Rattle.number.specs.Exact.{zeroᶠ}
-use Rattle.nodes.specs.declared.Node.{Node}
-
--- a node, where any will do
-abbrev pub blank : Node
-blank = record { lo = record { x = zeroᶠ; y = zeroᶠ }; hi = record { x = zeroᶠ; y = zeroᶠ }; first = 0; count = 0 }
 
 -- the first i of `list` stand in place of the first i of xs
 abbrev pub FrontOf : {A : Type 0} → List A → List A → ℕ → List A → Type 0

@@ -1,41 +1,62 @@
 -- The node records of an index buffer. Assumes nothing.
-use mathlib.Core.Path.{_≡_, refl, ap, _∙_}
-use mathlib.Core.List.{List, [], _++_, flatMap}
-use Prim.Native.Nat.{ℕ, _+_, _≤_, _<_}
+use mathlib.Core.Path.{_≡_, refl, sym, ap, _∙_}
+use mathlib.Core.Bool.{false}
+use mathlib.Core.List.{List, [], _∷_, _++_, flatMap}
+use Prim.Native.Nat.{ℕ, suc, _+_, _≤_, _<_}
 use native.Mathlib.Numerals.{add-one}
 use native.Mathlib.Omega.{arith}
 use lib.Dec.{ltb}
 use borrow.Author.Tests.{ltb-false, le-ltb}
-use mathlib.Core.Bool.{false, _||_}
-use lib.ListN.{length, getD, set, take, drop}
-use lib.Seq.{take-suc-set, ext-getD}
+use lib.ListN.{length, getD, set, take, drop, length-replicate}
+use lib.Seq.{take-at, drop-cons, set-at, append-snoc, ext-getD}
 use lib.Ieee.{Float}
 use Rattle.lists.proofs.RunLaws.{run-last, length-run, run-at}
 use Rattle.lists.specs.Lists.{run, atFront}
+use Rattle.accept.specs.declared.Refusal.{Refusal}
+use Rattle.accept.specs.declared.Refusal.the-variants.{ShortBuffer}
 use Rattle.accept.specs.declared.Test.{Test}
 use Rattle.accept.specs.declared.Test.the-variants.{Passed, Failed}
-use Rattle.accept.specs.Lists.{writtenFor}
-use Rattle.accept.proofs.TestLaws.{room-passed}
-use Rattle.accept.specs.declared.Refusal.{Refusal}
-use Rattle.accept.specs.Refusals.{number}
+use Rattle.accept.specs.Answers.{Outcome}
+use Rattle.accept.specs.Refusals.{number, given, _refusing_when_}
+use Rattle.accept.proofs.TestLaws.{refusing-passed, given-map}
 use Rattle.nodes.specs.declared.Node.{Node}
-use Rattle.records.specs.declared.Recording.{Recording}
-use Rattle.index.specs.Answers.{builtFor, builtNumber, nodesIn, itemsIn, boxesTested, shortIndex, Stored}
-use Rattle.records.specs.Records.{nodesTested, nodesAnswer, recordNodes, recordItems, Recorded}
-use Rattle.lists.proofs.FoldLaws.{or-none}
-use Rattle.index.proofs.GrowLaws.{boxes-passed, index-nodes, length-index-items}
 use Rattle.entries.specs.Entries.{boxCount}
-use Rattle.splits.specs.Tree.{Tree, indexOf}
+use Rattle.splits.specs.Tree.{Tree, indexOf, itemsOf}
 use Rattle.nodes.specs.Layout.{nodeOf, nodesOf, cornersOf, linksOf}
-use Rattle.records.specs.Records.{nodeIn}
+use Rattle.index.specs.declared.BuildFields.{BuildFields}
+use Rattle.index.specs.Buffer.{IndexBuffer, buffer, shortSizes, holding, grown}
+use Rattle.index.specs.Answers.{boxesTested}
+use Rattle.index.proofs.GrowLaws.{boxes-passed, index-nodes, length-index-items, grown-nodes, grown-lent}
 use Rattle.index.proofs.ReadLaws.{NodeIs, node-is}
+use Rattle.records.specs.declared.Recording.{Recording}
+use Rattle.records.specs.Records.{nodeIn, blankNode, blankNodes, nodesTested, NodesLent, nodesCall, recording, RecordsLent, recordsOutcome}
+
+-- ---- the nodes of an index buffer, written one by one
+pub length-blank : length blankNodes ≡ 511
+unfolding blankNodes
+length-blank = length-replicate 511 blankNode
+
+-- the run g 0, g 1, .. at the front of a list, one more
+pub front-more-run : {A : Type 0} (g : ℕ → A) (xs ys : List A) (i : ℕ) (x : A) → i < length xs → x ≡ g i → ys ≡ run g 0 i ++ drop i xs → set ys i x ≡ run g 0 (i + 1) ++ drop (i + 1) xs
+front-more-run {A} g xs ys i x h ex e =
+    let z : 0 + i ≡ i = omega arith in
+    let last : run g 0 (suc i) ≡ run g 0 i ++ (x ∷ []) = run-last g 0 i ∙ ap (λ (a : A). run g 0 i ++ (a ∷ [])) (ap g z ∙ sym ex) in
+    rw add-one (ap (λ (zs : List A). set zs i x) (e ∙ ap (λ (zs : List A). run g 0 i ++ zs) (drop-cons xs i x h))
+    ∙ set-at (run g 0 i) (getD xs i x) (drop (suc i) xs) x i (length-run g 0 i)
+    ∙ sym (append-snoc (run g 0 i) x (drop (suc i) xs))
+    ∙ ap (λ (zs : List A). zs ++ drop (suc i) xs) (sym last))
+
+-- and all of it
+pub front-run : {A : Type 0} (g : ℕ → A) (n : ℕ) (xs : List A) → run g 0 n ++ drop n xs ≡ atFront (run g 0 n) xs
+unfolding atFront
+front-run g n xs = rw (length-run g 0 n)
 
 read-node : (B : List Float) (K : List ℕ) (i : ℕ) (x : Node) → NodeIs B K [] i x → nodeIn B K i ≡ x
 unfolding nodeIn
 read-node B K i x s = rw (s .box, s .first, s .count)
 
 -- an index buffer's nodes are the tree's
-pub stored-nodes : (t : Tree) (C : List Float) (L : List ℕ) → run (nodeIn (atFront (flatMap cornersOf (nodesOf t)) C) (atFront (flatMap linksOf (nodesOf t)) L)) 0 (length (nodesOf t)) ≡ nodesOf t
+stored-nodes : (t : Tree) (C : List Float) (L : List ℕ) → run (nodeIn (atFront (flatMap cornersOf (nodesOf t)) C) (atFront (flatMap linksOf (nodesOf t)) L)) 0 (length (nodesOf t)) ≡ nodesOf t
 unfolding atFront
 stored-nodes t C L =
     let N = nodesOf t in
@@ -46,53 +67,82 @@ stored-nodes t C L =
     ext-getD e (run (nodeIn B K) 0 (length N)) N n
     (λ i h. let l : i < length N = rw n at h in let z : 0 + i ≡ i = omega arith in run-at (nodeIn B K) 0 (length N) i e l ∙ ap (nodeIn B K) z ∙ read-node B K i (getD N i e) (node-is N (drop (length (flatMap cornersOf N)) C) (drop (length (flatMap linksOf N)) L) e [] i l))
 
--- the list of those is what is told of a tree that is stored
-pub recorded-stored : (t : Tree) (C C′ : List Float) (L L′ I I′ : List ℕ) (n : ℕ) (xs : List Node) → Stored t C L I n C′ L′ I′ → take n xs ≡ run (nodeIn C′ L′) 0 n → Recorded t Passed I (record { number = 0; count = n; list = xs }) I′
-unfolding builtFor writtenFor atFront
-recorded-stored t C C′ L L′ I I′ n xs s e =
-    let f : take n xs ≡ nodesOf t = e ∙ rw (s .nodes, s .corners, s .links) (stored-nodes t C L) in
-    record { number = refl; count = s .nodes; nodes = λ N. rw (f, s .nodes); items = s .items }
+-- ---- a tree that is built, as records
+pub recorded-grown : (t : Tree) (B D : IndexBuffer) {n : ℕ} {xs : List Node} → record { answer = n; lent = D } ≡ grown t B → xs ≡ atFront (run (nodeIn (D .corners) (D .links)) 0 n) blankNodes
+    → record { answer = record { number = 0; count = n; list = xs }; lent = D .items } ≡ recording t (B .items)
+unfolding holding recording
+recorded-grown t B D {n} {xs} g e =
+    let nodes : n ≡ length (nodesOf t) = grown-nodes t B g in
+    let held = grown-lent t B g in
+    let corners : D .corners ≡ atFront (flatMap cornersOf (nodesOf t)) (B .corners) = ap (λ (b : IndexBuffer). b .corners) held in
+    let links : D .links ≡ atFront (flatMap linksOf (nodesOf t)) (B .links) = ap (λ (b : IndexBuffer). b .links) held in
+    let items : D .items ≡ atFront (itemsOf t) (B .items) = ap (λ (b : IndexBuffer). b .items) held in
+    let all : run (nodeIn (D .corners) (D .links)) 0 n ≡ nodesOf t = rw (nodes, corners, links) (stored-nodes t (B .corners) (B .links)) in
+    let list : xs ≡ atFront (nodesOf t) blankNodes = e ∙ ap (λ (N : List Node). atFront N blankNodes) all in
+    rw (list, nodes, items)
 
-pub recorded-refused : (t : Tree) (r : Refusal) (I : List ℕ) (xs : List Node) → Recorded t (Failed r) I (record { number = number r; count = 0; list = xs }) I
-unfolding builtFor writtenFor
-recorded-refused t r I xs = record { number = refl; count = refl; nodes = λ N. refl; items = refl }
+pub recorded-count : (t : Tree) (I : List ℕ) {r : Recording} {I′ : List ℕ} → record { answer = r; lent = I′ } ≡ recording t I → r .count ≡ length (nodesOf t)
+unfolding recording
+recorded-count t I e = ap (λ (o : Outcome Recording (List ℕ)). o .answer .count) e
 
--- what passes the tests of building as records
-pub nodes-passed : (v : List Float) (n i : ℕ) → nodesTested v n i ≡ Passed → (boxesTested v ≡ Passed) × (511 ≤ n) × (1024 ≤ i)
-unfolding nodesTested
-nodes-passed v n i e =
-    let p = room-passed (ltb n 511 || ltb i 1024) (boxesTested v) e in
-    let s = or-none (ltb n 511) (ltb i 1024) (p .0) in
-    (p .1, ltb-false n 511 (s .0), ltb-false i 1024 (s .1))
+-- ---- what passes the tests of building as records
+module _ (v : List Float) (n i : ℕ) where
+  pub nodes-passed : {t : Test} → t ≡ nodesTested v n i → t ≡ Passed → (boxesTested v ≡ Passed) × (511 ≤ n) × (1024 ≤ i)
+  unfolding nodesTested
+  nodes-passed tested e =
+      let items = refusing-passed (boxesTested v refusing ShortBuffer when ltb n 511) ShortBuffer (ltb i 1024) (sym tested ∙ e) in
+      let nodes = refusing-passed (boxesTested v) ShortBuffer (ltb n 511) (items .0) in
+      (nodes .0, ltb-false n 511 (nodes .1), ltb-false i 1024 (items .1))
 
-pub short-none : (c l i : ℕ) → 2044 ≤ c → 1022 ≤ l → 1024 ≤ i → shortIndex c l i ≡ false
+pub short-none : (c l i : ℕ) → 2044 ≤ c → 1022 ≤ l → 1024 ≤ i → shortSizes c l i ≡ false
 short-none c l i p q r = rw (le-ltb c 2044 p, le-ltb l 1022 q, le-ltb i 1024 r)
 
--- the counts that are told where it passes
-pub counted-nodes : (v : List Float) → boxesTested v ≡ Passed → nodesIn (builtFor (indexOf v) Passed) ≤ 511
-unfolding builtFor
-counted-nodes v p = let s = boxes-passed v p .0 in index-nodes v (omega arith)
+pub few-nodes : (v : List Float) → boxesTested v ≡ Passed → length (nodesOf (indexOf v)) ≤ 511
+few-nodes v p = let s = boxes-passed v p .0 in index-nodes v (omega arith)
 
-pub counted-items : (v : List Float) → itemsIn (builtFor (indexOf v) Passed) ≡ boxCount v
-unfolding builtFor
-counted-items v = length-index-items v
+-- ---- all that `records` leaves
+module _ (v : List Float) (room : ℕ) (I : List ℕ) where
+  pub records-passed : {t : Test} {r : Recording} {I′ : List ℕ} → t ≡ nodesTested v room (length I) → t ≡ Passed → record { answer = r; lent = I′ } ≡ recording (indexOf v) I
+      → record { answer = r; lent = record { nodeCount = r .count; itemCount = boxCount v; items = I′ } } ≡ recordsOutcome v room I
+  unfolding recordsOutcome
+  records-passed {r = r} {I′ = I′} tested e s =
+      let answer : r ≡ recording (indexOf v) I .answer = ap (λ (o : Outcome Recording (List ℕ)). o .answer) s in
+      let items : I′ ≡ recording (indexOf v) I .lent = ap (λ (o : Outcome Recording (List ℕ)). o .lent) s in
+      rw (← tested, e, recorded-count (indexOf v) I s, answer, items, length-index-items v)
 
--- ---- what the records of a call tell, by what the call is lent
-count-fits : (v : List Float) (n i c : ℕ) (p : Test) → nodesTested v n i ≡ p → c ≡ nodesIn (builtFor (indexOf v) p) → (c ≤ 511) × (c ≤ n)
-unfolding builtFor
-count-fits v n i c Passed t e =
-    let p = nodes-passed v n i t in
-    let s = p .1 in
-    let few = counted-nodes v (p .0) in
-    (omega arith, omega arith)
-count-fits v n i c (Failed r) t e = (omega arith, omega arith)
+  pub records-refused : {t : Test} {r : Refusal} → t ≡ nodesTested v room (length I) → t ≡ Failed r
+      → record { answer = record { number = number r; count = 0; list = blankNodes }; lent = record { nodeCount = 0; itemCount = 0; items = I } } ≡ recordsOutcome v room I
+  unfolding recordsOutcome
+  records-refused tested e = rw (← tested, e)
 
--- the list of records has room for all nodes
-pub recorded-fits : (v : List Float) (n i : ℕ) (I I′ : List ℕ) (r : Recording) → Recorded (indexOf v) (nodesTested v n i) I r I′ → (r .count ≤ 511) × (r .count ≤ n)
-recorded-fits v n i I I′ r s = count-fits v n i (r .count) (nodesTested v n i) refl (s .count)
+  count-fits : (c : ℕ) (t : Test) → t ≡ nodesTested v room (length I) → c ≡ given t (length (nodesOf (indexOf v))) (λ r. 0) → (c ≤ 511) × (c ≤ room)
+  unfolding given
+  count-fits c Passed tested e =
+      let p = nodes-passed v room (length I) tested refl in
+      let s = p .1 in
+      let few = few-nodes v (p .0) in
+      (omega arith, omega arith)
+  count-fits c (Failed r) tested e = (omega arith, omega arith)
 
--- once its nodes are written to the lent list
-pub recorded-written : (v : List Float) (N N′ : List Node) (I I′ : List ℕ) (r : Recording) → Recorded (indexOf v) (nodesTested v (length N) (length I)) I r I′ → N′ ≡ take (r .count) (r .list) ++ drop (r .count) N
-    → (r .number ≡ builtNumber (nodesAnswer v (length N) (length I))) × (N′ ≡ recordNodes v N I) × (I′ ≡ recordItems v N I)
-unfolding nodesAnswer recordNodes recordItems
-recorded-written v N N′ I I′ r s e = (s .number, e ∙ s .nodes N, s .items)
+  -- the list of records has room for all nodes
+  pub records-fit : {r : Recording} {l : RecordsLent} → record { answer = r; lent = l } ≡ recordsOutcome v room I → (r .count ≤ 511) × (r .count ≤ room)
+  unfolding recordsOutcome
+  records-fit {r = r} e =
+      count-fits (r .count) (nodesTested v room (length I)) refl
+      (ap (λ (o : Outcome Recording RecordsLent). o .answer .count) e ∙ given-map (λ (o : Outcome Recording RecordsLent). o .answer .count) (nodesTested v room (length I)) _ _)
+
+-- ---- and what the call leaves once the records are written to the lent list
+module _ (v : List Float) (N : List Node) (I : List ℕ) where
+  abbrev written : Outcome Recording RecordsLent → Outcome BuildFields NodesLent
+  written o = record {
+    answer = record { number = o .answer .number; nodes = o .lent .nodeCount; items = o .lent .itemCount };
+    lent = record { nodes = take (o .answer .count) (o .answer .list) ++ drop (o .answer .count) N; items = o .lent .items };
+  }
+
+  pub records-written : {r : Recording} {N′ : List Node} {I′ : List ℕ} {c d : ℕ} → record { answer = r; lent = record { nodeCount = c; itemCount = d; items = I′ } } ≡ recordsOutcome v (length N) I
+      → N′ ≡ take (r .count) (r .list) ++ drop (r .count) N → record { answer = record { number = r .number; nodes = c; items = d }; lent = record { nodes = N′; items = I′ } } ≡ nodesCall v N I
+  unfolding recordsOutcome recording nodesCall atFront
+  records-written e offered =
+      let t = indexOf v in
+      let front : take (length (nodesOf t)) (nodesOf t ++ drop (length (nodesOf t)) blankNodes) ≡ nodesOf t = take-at (nodesOf t) (drop (length (nodesOf t)) blankNodes) (length (nodesOf t)) refl in
+      rw offered (ap written e ∙ given-map written (nodesTested v (length N) (length I)) _ _ ∙ rw front)

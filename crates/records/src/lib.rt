@@ -3,13 +3,14 @@ ghost use mathlib.Core.Path.{_≡_};
 ghost use Prim.Native.Nat.{_≤_, _<_, _^_};
 ghost use mathlib.Core.List.{_++_};
 ghost use lib.ListN.{length, take, drop};
-ghost use Rattle.lists.specs.Lists.{run};
+ghost use Rattle.lists.specs.Lists.{run, atFront};
 ghost use Rattle.accept.specs.declared.Test.the-variants.{Passed};
 ghost use Rattle.splits.specs.Tree.{indexOf};
-ghost use Rattle.index.specs.Answers.{boxesTested, nodesIn, itemsIn};
-ghost use Rattle.records.specs.Records.{nodeIn, nodesTested, nodesAnswer, Recorded};
+ghost use Rattle.index.specs.Answers.{boxesTested};
+ghost use Rattle.records.specs.Records.{nodeIn, blankNodes, nodesTested, recording, recordsOutcome};
+use accept::Refusal;
 use accept::Test;
-use accept::refusals::room_tested;
+use accept::refusals::refusing;
 use boundary::Point;
 use index::refusals;
 use index::tree;
@@ -41,7 +42,7 @@ fn node_in(corners: &[f64], links: &[u32], i: usize) -> Node
 
 // Zeros.
 fn blank() -> [Node; 511]
-    ensures { λ r. ⌜ length r ≡ 511 ⌝ }
+    ensures { λ r. ⌜ r ≡ blankNodes ⌝ }
 {
     let p = Point { x: 0.0, y: 0.0 };
     let none = Node {
@@ -56,7 +57,7 @@ fn blank() -> [Node; 511]
 // The first n nodes of an index buffer, at the front of a list.
 fn listed(corners: &[f64], links: &[u32], n: usize) -> [Node; 511]
     requires { ⌜ n ≤ 511 ⌝ }
-    ensures { λ r. ⌜ (length r ≡ 511) × (take n r ≡ run (nodeIn (now (corners .entry)) (now (links .entry))) 0 n) ⌝ }
+    ensures { λ r. ⌜ r ≡ atFront (run (nodeIn (now (corners .entry)) (now (links .entry))) 0 n) blankNodes ⌝ }
 {
     let mut list = blank();
     let mut i = 0;
@@ -70,7 +71,7 @@ fn listed(corners: &[f64], links: &[u32], n: usize) -> [Node; 511]
 // The index of a list of boxes that passes the tests, as records, and its items.
 fn recorded(boxes: &[f64], items: &mut [u32]) -> Recording
     requires { ⌜ (boxesTested (now boxes) ≡ Passed) × (1024 ≤ length (now items)) ⌝ }
-    ensures { λ r. ⌜ Recorded (indexOf (now (boxes .entry))) Passed (now (items .entry)) r (now (items .exit)) ⌝ }
+    ensures { λ r. ⌜ record { answer = r; lent = now (items .exit) } ≡ recording (indexOf (now (boxes .entry))) (now (items .entry)) ⌝ }
 {
     let mut corners = [0.0; 2044];
     let mut links = [0; 1022];
@@ -87,10 +88,12 @@ fn recorded(boxes: &[f64], items: &mut [u32]) -> Recording
 fn nodes_tested(boxes: &[f64], nodes: usize, items: usize) -> Test
     ensures { λ r. ⌜ r ≡ nodesTested (now (boxes .entry)) nodes items ⌝ }
 {
-    room_tested(
-        (nodes < 511) | (items < 1024),
+    let room = refusing(
         refusals::boxes_tested(boxes),
-    )
+        Refusal::ShortBuffer,
+        nodes < 511,
+    );
+    refusing(room, Refusal::ShortBuffer, items < 1024)
 }
 
 // The same of any list of boxes, where there is room for so many records, and how many nodes and items
@@ -102,9 +105,8 @@ pub fn records(
     node_count: &mut u32,
     item_count: &mut u32,
 ) -> Recording
-    ensures { λ r. ⌜ Recorded (indexOf (now (boxes .entry))) (nodesTested (now (boxes .entry)) room (length (now (items .entry)))) (now (items .entry)) r (now (items .exit))
-        × (now («node_count» .exit) ≡ nodesIn (nodesAnswer (now (boxes .entry)) room (length (now (items .entry)))))
-        × (now («item_count» .exit) ≡ itemsIn (nodesAnswer (now (boxes .entry)) room (length (now (items .entry))))) ⌝ }
+    ensures { λ r. ⌜ record { answer = r; lent = record { nodeCount = now («node_count» .exit); itemCount = now («item_count» .exit); items = now (items .exit) } }
+        ≡ recordsOutcome (now (boxes .entry)) room (now (items .entry)) ⌝ }
 {
     let t = nodes_tested(boxes, room, items.len());
     match t {

@@ -1,16 +1,18 @@
--- Laws of the search of a set's index.
+-- Laws of the search of an index of a set.
 
 -- The least of some magnitudes, the lowest number among equals: the search keeps the better of two, and there is only one best.
 pub mod LeastLaws
+-- The gap of a box that has the nearest point of an edge is at most the edge's distance.
+pub mod EdgeGap
 -- An outline's magnitude: what it is, and that the gap of every box around the outline's is at most that.
 pub mod MagnitudeLaws
--- The gap of every node of a set's index is at most the magnitude of each outline below it.
+-- The gap of every node of a tree that covers a set's outlines is at most the magnitude of each outline below it; our index is such a tree.
 pub mod GapLaws
--- Outline k as a part of the list, and the best of a leaf's outlines, one after the other.
+-- The magnitude of outline k, and the best of a leaf's outlines, one after the other.
 pub mod LookLaws
--- A node that waits: the tree that the buffers hold there, and those of its children.
+-- A node that waits: the tree that stands there, and those of its children.
 pub mod WaitLaws
 -- The search: what is kept from turn to turn, and that it ends with the least.
 pub mod SearchLaws
--- The search of a set's index: how it begins, and what it ends with.
+-- The search of an index of a set: how it begins, and what it ends with.
 pub mod SetSearch

@@ -1,49 +1,33 @@
--- Outline k as a part of the list, and the best of a leaf's outlines, one after the other. Assumes nothing.
+-- The magnitude of outline k, and the best of a leaf's outlines, one after the other. Assumes nothing.
 use mathlib.Core.Path.{_≡_, sym, ap, _∙_}
-use mathlib.Core.Bool.{true, false, not}
+use mathlib.Core.Bool.{false, not}
 use mathlib.Core.List.{List}
-use Prim.Native.Nat.{ℕ, zero, suc, _+_, _-_, _*_, _≤_, _<_}
+use Prim.Native.Nat.{ℕ, zero, suc, _+_, _-_, _≤_, _<_}
 use native.Mathlib.Nat.{add-zero, sub-zero}
 use native.Mathlib.Omega.{arith}
-use lib.ListN.{length, getD, take, drop}
+use lib.ListN.{length}
 use lib.Ieee.{Float}
 use Rattle.boundary.specs.declared.Point.{Point}
-use Rattle.boundary.specs.Boxes.{inField, pointInField, FieldPoint}
+use Rattle.boundary.specs.Boxes.{inField, FieldPoint}
 use Rattle.lists.specs.Lists.{run, fold, any, In}
 use Rattle.distance.specs.Nearest.{nearestOf}
 use Rattle.boundary.specs.Outline.{count, edges}
 use Rattle.nodes.specs.Layout.{itemAt}
 use Rattle.lists.proofs.MemberLaws.{in-first, in-rest}
-use Rattle.set.specs.Set.{startOf, outlineAt}
-use Rattle.set.proofs.SetLaws.{outline-within, outline-some, outline-in-field}
+use Rattle.set.specs.Set.{Outline, outlineIn, Fitting, DoubleSet}
+use Rattle.set.proofs.SetLaws.{outline-in-field, outline-numbers}
 use Rattle.search.specs.declared.Best.{Best}
 use Rattle.search.specs.Least.{magnitudeAt}
-use Rattle.search.specs.Walk.{improved, bestOf, Asked}
+use Rattle.search.specs.Walk.{improved, bestOf}
 use Rattle.search.proofs.MagnitudeLaws.{magnitude-is}
-use Rattle.search.proofs.GapLaws.{outline-numbers}
 
--- ---- outline k, which has b vertices, a before it
-module _ (v : List Float) (cs ss : List ℕ) (p : Point) (A : Asked v cs ss p) (k : ℕ) (l : k < length cs) (a b : ℕ) (ea : a ≡ getD ss k 0) (eb : b ≡ getD cs k 0) where
-  start : a ≡ startOf cs k
-  start = ea ∙ A .starts .each k l
+-- ---- outline k, as o has it
+module _ (os : List Outline) (fit : Fitting os) (held : DoubleSet os) (p : Point) (k : ℕ) (l : k < length os) (o : Outline) (e : o ≡ outlineIn os k) where
+  pub outline-fit : (any (λ x. not (inField x)) o ≡ false) × (0 < count o)
+  outline-fit = rw e (outline-in-field os fit k l, fit .some k l)
 
-  pub part-within : 2 * a + 2 * b ≤ length v
-  part-within = let h = outline-within v cs (A .fit) k l in let s = start in omega arith
-
-  abbrev part : List Float
-  part = take (2 * a + 2 * b - 2 * a) (drop (2 * a) v)
-
-  part-is : part ≡ outlineAt v cs k
-  unfolding outlineAt
-  part-is = let z : 2 * a + 2 * b - 2 * a ≡ 2 * b = omega arith in rw (z, start, eb)
-
-  pub part-fit : (any (λ x. not (inField x)) part ≡ false) × (pointInField p ≡ true) × (0 < count part)
-  part-fit = rw part-is (outline-in-field v cs (A .fit) k l, A .point, outline-some v cs (A .fit) k l)
-
-  pub part-magnitude : FieldPoint p → (r : Float) → r ≡ nearestOf (edges part) p .d → r ≡ magnitudeAt v cs p k
-  part-magnitude P r e =
-      let m = magnitude-is (outlineAt v cs k) (outline-numbers v cs p (A .fit) (A .held) P k l) p P (outline-some v cs (A .fit) k l) in
-      e ∙ ap (λ (o : List Float). nearestOf (edges o) p .d) part-is ∙ sym m
+  pub outline-magnitude : FieldPoint p → (r : Float) → r ≡ nearestOf (edges o) p .d → r ≡ magnitudeAt os p k
+  outline-magnitude P r h = h ∙ ap (λ (o : Outline). nearestOf (edges o) p .d) e ∙ sym (magnitude-is (outlineIn os k) (outline-numbers os fit held k l) p P (fit .some k l))
 
 -- ---- the items of a leaf
 run-in : (g : ℕ → ℕ) (a n i : ℕ) → i < n → In (g (a + i)) (run g a n)

@@ -25,18 +25,21 @@ use Rattle.boundary.specs.declared.Edge.{Edge}
 use Rattle.boundary.specs.declared.Near.{Near}
 use Rattle.boundary.specs.declared.Distance.{Distance}
 use Rattle.boundary.specs.declared.Bounds.{Bounds}
-use Rattle.boundary.specs.Boxes.{PointOf, FieldValue, FieldPoint, FieldEdge, FieldBox, FiniteBox, Inside, Around, nowhere, spot, stretched, widenedOf, gapOf}
+use Rattle.boundary.specs.Boxes.{PointOf, FieldValue, FieldPoint, FieldEdge, FieldBox, Inside, Around, nowhere, spot, stretched, widenedOf, gapOf}
 use Rattle.lists.specs.Lists.{run, fold}
 use Rattle.boundary.specs.Line.{footOf, lineNear}
 use Rattle.distance.specs.Nearest.{nearer, farAway, nearestOf, roundingOf, flipped, awayAlong, signedOf}
 use Rattle.boundary.specs.Outline.{count, after, vertexAt, edgeAt, vertices, edges}
 use Rattle.pieces.specs.Piece.{pieceNear}
-use Rattle.boundary.proofs.BoxLaws.{around-inside, gap-around}
+use Rattle.boundary.proofs.BoxLaws.{around-inside}
 use Rattle.boundary.proofs.FieldLaws.{field-not-nan}
 use Rattle.distance.proofs.SearchLaws.{foot-near, near-finite, step}
 use Rattle.geometry.specs.Polygon.{boundsOf, containsOf}
 use Rattle.boundary.proofs.AroundLaws.{Number, NumberBox, around-self, around-through, hull-number, hull-around, nowhere-number}
+use Rattle.set.specs.Set.{Outline, outlineBox}
 use Rattle.search.specs.Least.{magnitudeOf}
+use Rattle.search.specs.Walk.{DoubleBox}
+use Rattle.search.proofs.EdgeGap.{gap-edge}
 
 -- ---- the magnitude of a signed distance is the distance
 -- `f64` has one +0
@@ -120,7 +123,7 @@ boxed g i (suc m) b B N =
     at f j l h s r (no a) = r .inside j (omega arith) (omega arith)
 
 -- ---- an outline whose numbers are all of the field
-module _ (o : List Float) (N : (i : ℕ) → i < length o → FieldValue (getD o i nan)) where
+module _ (o : Outline) (N : (i : ℕ) → i < length o → FieldValue (getD o i nan)) where
   vertex-field : (i : ℕ) → i < count o → FieldPoint (vertexAt o i)
   vertex-field i l = record { x = N (2 * i) (omega arith); y = N (2 * i + 1) (omega arith) }
 
@@ -135,7 +138,7 @@ module _ (o : List Float) (N : (i : ℕ) → i < length o → FieldValue (getD o
   edge-field i l = record { a = vertex-field i l; b = vertex-field (after (count o) i) (after-within i l) }
 
   -- its box has every vertex
-  vertex-inside : (i : ℕ) → i < count o → Inside (vertexAt o i) (boundsOf (vertices o))
+  vertex-inside : (i : ℕ) → i < count o → Inside (vertexAt o i) (outlineBox o)
   unfolding boundsOf vertices
   vertex-inside i l = boxed (vertexAt o) 0 (count o) nowhere nowhere-number number .inside i (omega arith) (omega arith)
     where
@@ -173,12 +176,12 @@ module _ (o : List Float) (N : (i : ℕ) → i < length o → FieldValue (getD o
     pub magnitude-length : Length (magnitudeOf o p)
     magnitude-length = rw magnitude-is near-length
 
-    -- THE GAP of every finite box around the outline's widened box is at most it
-    pub gap-magnitude : (n : Bounds) → FieldBox (boundsOf (vertices o)) → FiniteBox n → Around n (widenedOf (boundsOf (vertices o))) → T (le (gapOf n p) (magnitudeOf o p))
+    -- THE GAP of every box of `f64`s around the outline's widened box is at most it
+    pub gap-magnitude : (n : Bounds) → FieldBox (outlineBox o) → DoubleBox n → Around n (widenedOf (outlineBox o)) → T (le (gapOf n p) (magnitudeOf o p))
     gap-magnitude n B F A =
         rw magnitude-is
         (nearest-one-of (λ c. T (le (gapOf n p) (c .d)))
-        (λ i l. gap-around (edge-field i l) P B (vertex-inside i l) (vertex-inside (after (count o) i) (after-within i l)) F A))
+        (λ i l. gap-edge (edge-field i l) P B (vertex-inside i l) (vertex-inside (after (count o) i) (after-within i l)) F A))
 
 -- no outline is infinitely far
 pub magnitude-none : (p : Point) → magnitudeOf [] p ≡ inf false

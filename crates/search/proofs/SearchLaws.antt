@@ -11,13 +11,13 @@ use lib.Ieee.Bits.{is-true}
 use Rattle.number.proofs.OrderLaws.{le-through, below-through, below-le, below-not-le}
 use Rattle.boundary.specs.declared.Point.{Point}
 use Rattle.lists.proofs.MemberLaws.{times-append}
-use Rattle.lists.specs.Lists.{run, times, In}
+use Rattle.lists.specs.Lists.{times, In}
 use Rattle.heap.specs.declared.Entry.{Entry}
 use Rattle.heap.specs.Heap.{Heaped, total, Pushed, Popped}
 use Rattle.heap.proofs.HeapLaws.{all-kept, all-left, popped-gap}
-use Rattle.entries.specs.Entries.{boxAt}
 use Rattle.splits.specs.Tree.{itemsOf}
-use Rattle.nodes.specs.Layout.{extra, itemAt, firstAt, countAt}
+use Rattle.nodes.specs.Layout.{extra, firstAt, countAt}
+use Rattle.index.specs.Buffer.{IndexBuffer, nodeBox, leafItems}
 use Rattle.boundary.proofs.AroundLaws.{Number}
 use Rattle.search.specs.declared.Best.{Best}
 use Rattle.search.specs.Walk.{bestOf, entryFor, Opened}
@@ -35,19 +35,19 @@ total-some w f (suc n) A h l = go (ℕ-discrete (w (f n)) 0) (total-some w f n A
     go (yes e) ih = ih (omega arith)
     go (no a) ih = h n (omega arith) (omega arith)
 
-module _ (B : List Float) (L I : List ℕ) (d : ℕ) (p : Point) (D : ℕ → Float) (n : ℕ) where
+module _ (B : IndexBuffer) (d : ℕ) (p : Point) (D : ℕ → Float) (n : ℕ) where
   abbrev pub Ready : Entry → Type 0
-  Ready x = Waits B L I d p (Nearby D n p) x
+  Ready x = Waits B d p (Nearby D n p) x
 
   abbrev pub entry : ℕ → Entry
-  entry k = entryFor B p k
+  entry k = entryFor (B .corners) p k
 
   -- how many nodes an entry stands for, and how often i is below it
   unfoldable pub sizeOf : Entry → ℕ
-  sizeOf x = 1 + extra (treeAt B L I d (x .node))
+  sizeOf x = 1 + extra (treeAt B d (x .node))
 
   unfoldable pub holdsOf : ℕ → Entry → ℕ
-  holdsOf i x = times i (itemsOf (treeAt B L I d (x .node)))
+  holdsOf i x = times i (itemsOf (treeAt B d (x .node)))
 
   pub record Searching (f : ℕ → Entry) (m : ℕ) (best : Best) : Type 0 where
     pub heaped : Heaped f m
@@ -87,17 +87,17 @@ module _ (B : List Float) (L I : List ℕ) (d : ℕ) (p : Point) (D : ℕ → Fl
     popped-less = let e = H .contents sizeOf in omega arith
 
     -- its items are outlines
-    item-gap : (i : ℕ) → 0 < holdsOf i x → Gapped D n p (boxAt B (x .node)) i
+    item-gap : (i : ℕ) → 0 < holdsOf i x → Gapped D n p (nodeBox B (x .node)) i
     unfolding holdsOf
-    item-gap i h = waits-root B L I d p (Nearby D n p) x (popped-ready .1) i h
+    item-gap i h = waits-root B d p (Nearby D n p) x (popped-ready .1) i h
 
     -- a leaf's items are looked at
-    module _ (N : (k : ℕ) → k ≤ n → Number (D k)) (leaf : 0 < countAt L (x .node)) where
+    module _ (N : (k : ℕ) → k ≤ n → Number (D k)) (leaf : 0 < countAt (B .links) (x .node)) where
       abbrev looked : List ℕ
-      looked = run (itemAt I) (firstAt L (x .node)) (countAt L (x .node))
+      looked = leafItems B (x .node)
 
-      items-are : itemsOf (treeAt B L I d (x .node)) ≡ looked
-      items-are = waits-items B L I d p (Nearby D n p) x (popped-ready .1) leaf
+      items-are : itemsOf (treeAt B d (x .node)) ≡ looked
+      items-are = waits-items B d p (Nearby D n p) x (popped-ready .1) leaf
 
       pub looked-within : (i : ℕ) → In i looked → i < n
       unfolding holdsOf
@@ -120,15 +120,15 @@ module _ (B : List Float) (L I : List ℕ) (d : ℕ) (p : Point) (D : ℕ → Fl
           go i l z b (no a) = b .new i (omega arith)
 
     -- an inner node gives way to its children
-    module _ (none : countAt L (x .node) ≡ 0) where
-      parts : Children B L I d p (Nearby D n p) (x .node) (firstAt L (x .node))
-      parts = waits-children B L I p (Nearby D n p) d x (popped-ready .1) none
+    module _ (none : countAt (B .links) (x .node) ≡ 0) where
+      parts : Children B d p (Nearby D n p) (x .node) (firstAt (B .links) (x .node))
+      parts = waits-children B d p (Nearby D n p) x (popped-ready .1) none
 
-      pub children-small : firstAt L (x .node) + 2 ≤ 511
+      pub children-small : firstAt (B .links) (x .node) + 2 ≤ 511
       children-small = parts .small
 
-      module _ {k : ℕ → Entry} (O : Opened g (m - 1) (entry (firstAt L (x .node))) (entry (firstAt L (x .node) + 1)) k) where
-        all : (w : Entry → ℕ) → total w k (m - 1 + 1 + 1) ≡ total w g (m - 1) + w (entry (firstAt L (x .node))) + w (entry (firstAt L (x .node) + 1))
+      module _ {k : ℕ → Entry} (O : Opened g (m - 1) (entry (firstAt (B .links) (x .node))) (entry (firstAt (B .links) (x .node) + 1)) k) where
+        all : (w : Entry → ℕ) → total w k (m - 1 + 1 + 1) ≡ total w g (m - 1) + w (entry (firstAt (B .links) (x .node))) + w (entry (firstAt (B .links) (x .node) + 1))
         all w = let a = O .first .contents w in let b = O .second .contents w in omega arith
 
         three : m - 1 + 1 + 1 ≡ m - 1 + 2
@@ -149,7 +149,7 @@ module _ (B : List Float) (L I : List ℕ) (d : ℕ) (p : Point) (D : ℕ → Fl
               let a = rw three at (all (holdsOf i)) in
               let b = H .contents (holdsOf i) in
               let c = ap (times i) (parts .items) in
-              let e = times-append i (itemsOf (treeAt B L I d (firstAt L (x .node)))) (itemsOf (treeAt B L I d (firstAt L (x .node) + 1))) in
+              let e = times-append i (itemsOf (treeAt B d (firstAt (B .links) (x .node)))) (itemsOf (treeAt B d (firstAt (B .links) (x .node) + 1))) in
               S .cover i l (omega arith);
         }
 
@@ -167,7 +167,7 @@ module _ (B : List Float) (L I : List ℕ) (d : ℕ) (p : Point) (D : ℕ → Fl
           waiting : (k : ℕ) → k < m - 1 → 0 < holdsOf i (g k) → Upto D best i
           waiting k K h =
               let w = popped-ready .0 k K in
-              let q : T (le (g k .gap) (D i)) = rw (w .gap) (waits-root B L I d p (Nearby D n p) (g k) w i h .gap) in
+              let q : T (le (g k .gap) (D i)) = rw (w .gap) (waits-root B d p (Nearby D n p) (g k) w i h .gap) in
               farther i (le-through (x .gap) (g k .gap) (D i) (popped-gap H k K) q)
 
           go : Dec (holdsOf i x ≡ 0) → Dec (total (holdsOf i) g (m - 1) ≡ 0) → Upto D best i

@@ -1,20 +1,22 @@
 -- The search for the nearest outline: what it reads, and how it takes the better of two. Definitions only.
 use mathlib.Core.Path.{_≡_}
 use mathlib.Core.Bool.{Bool, true, cond, _&&_, _||_}
-use mathlib.Core.List.{List, flatMap}
-use Prim.Native.Nat.{ℕ, _+_, _<_}
+use mathlib.Core.List.{List}
+use Prim.Native.Nat.{ℕ, _+_, _*_, _≤_, _<_}
 use lib.Dec.{T, ltb}
-use lib.ListN.{length, getD}
-use lib.Ieee.{Float, nan, binary64, fits, lt, eq}
+use lib.ListN.{length}
+use lib.Ieee.{Float, binary64, fits, lt, eq}
 use Rattle.boundary.specs.declared.Point.{Point}
-use Rattle.boundary.specs.Boxes.{pointInField, gapOf}
-use Rattle.lists.specs.Lists.{fold, atFront}
+use Rattle.boundary.specs.declared.Bounds.{Bounds}
+use Rattle.boundary.specs.Boxes.{BoxOf, Around, pointInField, widenedOf, gapOf}
+use Rattle.lists.specs.Lists.{fold, In}
 use Rattle.heap.specs.declared.Entry.{Entry}
 use Rattle.heap.specs.Heap.{Pushed}
 use Rattle.entries.specs.Entries.{boxAt}
-use Rattle.splits.specs.Tree.{indexOf, itemsOf}
-use Rattle.nodes.specs.Layout.{nodesOf, cornersOf, linksOf}
-use Rattle.set.specs.Set.{setBoxes, Fit}
+use Rattle.splits.specs.Tree.{Tree, itemsOf, EachNode}
+use Rattle.nodes.specs.Layout.{extra}
+use Rattle.index.specs.Buffer.{IndexBuffer, Stands}
+use Rattle.set.specs.Set.{Outline, startOf, outlinesOf, setBox, Fitting, DoubleSet}
 use Rattle.set.specs.Answers.{Starts}
 use Rattle.search.specs.declared.Best.{Best}
 
@@ -31,25 +33,31 @@ unfoldable pub bestOf : (ℕ → Float) → Best → List ℕ → Best
 unfolding fold improved
 bestOf D best ks = fold (λ b k. improved b k (D k)) best ks
 
--- every number of the list is an `f64`: so it is of every list that a call is lent
-pub record Doubles (v : List Float) : Type 0 where
-  pub each : (i : ℕ) → i < length v → T (fits binary64 (getD v i nan))
-
 -- a set of `f64`s that passed the tests, with the numbers of the vertices before each outline in a list, and a point of the field
 pub record Asked (v : List Float) (cs ss : List ℕ) (p : Point) : Type 0 where
-  pub fit : Fit v cs
-  pub held : Doubles v
+  pub within : 2 * startOf cs (length cs) ≤ length v
   pub starts : Starts cs ss
+  pub fitting : Fitting (outlinesOf v cs)
+  pub held : DoubleSet (outlinesOf v cs)
   pub point : pointInField p ≡ true
 
--- the buffers hold the index of the set's boxes, and more past its end
-pub record Indexed (v : List Float) (cs : List ℕ) (C : List Float) (L I : List ℕ) : Type 0 where
-  pub pastCorners : List Float
-  pub pastLinks : List ℕ
-  pub pastItems : List ℕ
-  pub corners : C ≡ atFront (flatMap cornersOf (nodesOf (indexOf (setBoxes v cs)))) pastCorners
-  pub links : L ≡ atFront (flatMap linksOf (nodesOf (indexOf (setBoxes v cs)))) pastLinks
-  pub items : I ≡ atFront (itemsOf (indexOf (setBoxes v cs))) pastItems
+-- the corners are `f64`s
+abbrev pub DoubleBox : Bounds → Type 0
+DoubleBox b = BoxOf (λ x. T (fits binary64 x)) b
+
+-- the item i below a node with the box b is an outline's number, and the box is around that outline's widened box
+pub record Covered (os : List Outline) (b : Bounds) (i : ℕ) : Type 0 where
+  pub within : i < length os
+  pub around : Around b (widenedOf (setBox os i))
+
+-- an index of the set stands in the buffer: any tree of at most 511 nodes, wherever they are, whose leaves have every outline's number, and whose boxes cover the outlines below them
+pub record Searched (os : List Outline) (B : IndexBuffer) : Type 0 where
+  pub tree : Tree
+  pub stands : Stands B 0 tree
+  pub few : 1 + extra tree ≤ 511
+  pub has : (i : ℕ) → i < length os → In i (itemsOf tree)
+  pub covers : EachNode (λ b is. (i : ℕ) → In i is → Covered os b i) tree
+  pub held : EachNode (λ b _. DoubleBox b) tree
 
 -- both of two entries came into the heap f of n, which became k
 pub record Opened (f : ℕ → Entry) (n : ℕ) (x y : Entry) (k : ℕ → Entry) : Type 0 where

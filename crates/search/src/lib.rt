@@ -13,10 +13,13 @@ ghost use Rattle.heap.specs.Order.{Number};
 ghost use Rattle.heap.specs.Heap.{entryAt, Heaped};
 ghost use Rattle.entries.specs.Entries.{boxAt};
 ghost use Rattle.nodes.specs.Layout.{itemAt};
-ghost use Rattle.search.specs.Least.{magnitudeAt, leastOf};
-ghost use Rattle.search.specs.Walk.{improved, bestOf, Doubles, Asked, Indexed, Opened, entryFor};
+ghost use Rattle.index.specs.Buffer.{buffer};
+ghost use Rattle.set.specs.Set.{outlinesOf, Doubles};
+ghost use Rattle.search.specs.Least.{magnitudeAt, leastIn};
+ghost use Rattle.search.specs.Walk.{improved, bestOf, Asked, Searched, Opened, entryFor};
 use boundary::Point;
 use number::root::hypot;
+use set::outlines::outline_at;
 use signs::max;
 
 // An outline's number, and the magnitude of its distance.
@@ -83,12 +86,10 @@ fn edge_distance(o: &[f64], p: Point) -> f64
 
 // The magnitude of the distance of outline k.
 fn magnitude(v: &[f64], counts: &[u32], starts: &[u32], k: u32, p: Point) -> f64
-    requires { ⌜ Asked (now v) (now counts) (now starts) p × (k < length (now counts)) ⌝ }
-    ensures { λ r. ⌜ r ≡ magnitudeAt (now (v .entry)) (now (counts .entry)) p k ⌝ }
+    requires { ⌜ Asked (now v) (now counts) (now starts) p × (k < length (outlinesOf (now v) (now counts))) ⌝ }
+    ensures { λ r. ⌜ r ≡ magnitudeAt (outlinesOf (now (v .entry)) (now (counts .entry))) p k ⌝ }
 {
-    let at = 2 * (lists::at(starts, k as usize) as usize);
-    let end = at + 2 * (lists::at(counts, k as usize) as usize);
-    edge_distance(&v[at..end], p)
+    edge_distance(outline_at(v, counts, starts, k as usize), p)
 }
 
 // The best of it and a leaf's outlines.
@@ -102,8 +103,9 @@ fn look(
     p: Point,
     start: Best,
 ) -> Best
-    requires { ⌜ Asked (now v) (now counts) (now starts) p × ((i : ℕ) → In i (run (itemAt (now items)) first count) → i < length (now counts)) ⌝ }
-    ensures { λ r. ⌜ r ≡ bestOf (magnitudeAt (now (v .entry)) (now (counts .entry)) p) start (run (itemAt (now (items .entry))) first count) ⌝ }
+    requires { ⌜ Asked (now v) (now counts) (now starts) p
+        × ((i : ℕ) → In i (run (itemAt (now items)) first count) → i < length (outlinesOf (now v) (now counts))) ⌝ }
+    ensures { λ r. ⌜ r ≡ bestOf (magnitudeAt (outlinesOf (now (v .entry)) (now (counts .entry))) p) start (run (itemAt (now (items .entry))) first count) ⌝ }
 {
     let mut best = start;
     let mut i = 0;
@@ -126,7 +128,7 @@ fn wait_both(corners: &[f64], p: Point, first: u32, nodes: &mut [u32], gaps: &mu
     heap::push(nodes, gaps, n + 1, second, gap(corners, second, p));
 }
 
-// The nearest of the set's outlines, by a search of its index: the nodes that wait are in a heap, and the
+// The nearest of the set's outlines, by a search of an index of it: the nodes that wait are in a heap, and the
 // search ends where the least gap is above the best distance.
 fn search_in(
     v: &[f64],
@@ -139,9 +141,9 @@ fn search_in(
     nodes: &mut [u32],
     gaps: &mut [f64],
 ) -> Best
-    requires { ⌜ Asked (now v) (now counts) (now starts) p × Indexed (now v) (now counts) (now corners) (now links) (now items)
-        × (0 < length (now counts)) × (length (now nodes) ≡ 512) × (length (now gaps) ≡ 512) ⌝ }
-    ensures { λ r. ⌜ r ≡ leastOf (magnitudeAt (now (v .entry)) (now (counts .entry)) p) (length (now (counts .entry))) ⌝ }
+    requires { ⌜ Asked (now v) (now counts) (now starts) p
+        × Searched (outlinesOf (now v) (now counts)) (buffer (now corners) (now links) (now items)) × (0 < length (now counts)) × (length (now nodes) ≡ 512) × (length (now gaps) ≡ 512) ⌝ }
+    ensures { λ r. ⌜ r ≡ leastIn (outlinesOf (now (v .entry)) (now (counts .entry))) p ⌝ }
 {
     heap::push(nodes, gaps, 0, 0, gap(corners, 0, p));
     let mut best = Best {
@@ -178,9 +180,9 @@ pub fn search(
     links: &[u32],
     items: &[u32],
 ) -> Best
-    requires { ⌜ Asked (now v) (now counts) (now starts) p × Indexed (now v) (now counts) (now corners) (now links) (now items)
-        × (0 < length (now counts)) ⌝ }
-    ensures { λ r. ⌜ r ≡ leastOf (magnitudeAt (now (v .entry)) (now (counts .entry)) p) (length (now (counts .entry))) ⌝ }
+    requires { ⌜ Asked (now v) (now counts) (now starts) p
+        × Searched (outlinesOf (now v) (now counts)) (buffer (now corners) (now links) (now items)) × (0 < length (now counts)) ⌝ }
+    ensures { λ r. ⌜ r ≡ leastIn (outlinesOf (now (v .entry)) (now (counts .entry))) p ⌝ }
 {
     let mut nodes = [0; 512];
     let mut gaps = [0.0; 512];

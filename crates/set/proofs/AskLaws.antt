@@ -1,43 +1,68 @@
--- What a query over a set that passes the tests has, and the starts that it writes. Assumes nothing.
+-- What a query over a set that passes the tests has, and the boxes and starts that it writes. Assumes nothing.
 use mathlib.Core.Path.{_≡_, ap, _∙_}
-use mathlib.Core.Bool.{true}
+use mathlib.Core.Bool.{true, _||_}
 use mathlib.Core.List.{List}
-use Prim.Native.Nat.{ℕ, _+_, _*_, _≤_, _<_}
+use Prim.Native.Nat.{ℕ, _+_, _-_, _*_, _≤_, _<_}
 use native.Mathlib.Omega.{arith}
-use lib.ListN.{length, getD, drop, List·getD-append}
+use borrow.Author.Tests.{ltb-false, not-false}
+use lib.Dec.{ltb}
+use lib.ListN.{length, getD, take, drop, List·getD-append}
 use lib.Seq.{sets}
 use lib.Ieee.{Float}
 use Rattle.boundary.specs.declared.Point.{Point}
 use Rattle.boundary.specs.Boxes.{pointInField}
 use Rattle.lists.specs.Lists.{run}
 use Rattle.accept.specs.declared.Test.the-variants.{Passed}
-use Rattle.accept.specs.Refusals.{pointTested}
-use Rattle.accept.proofs.TestLaws.{point-passed, room-passed}
-use Rattle.index.specs.Answers.{shortIndex}
+use Rattle.accept.proofs.TestLaws.{refusing-passed}
+use Rattle.index.specs.Answers.{Accepted}
+use Rattle.index.specs.Buffer.{IndexBuffer}
+use Rattle.lists.proofs.FoldLaws.{or-none}
 use Rattle.lists.proofs.StoreLaws.{sets-front}
 use Rattle.lists.proofs.RunLaws.{length-run, run-at}
-use Rattle.index.proofs.GrowLaws.{accepted-of}
-use Rattle.set.specs.Set.{startOf, setBoxes, Fit}
-use Rattle.set.specs.Tests.{setTested, setQueryTested}
+use Rattle.index.proofs.GrowLaws.{front-of}
+use Rattle.set.specs.Set.{startOf, outlinesOf, setBoxes}
+use Rattle.set.specs.Tests.{setQueryTested}
 use Rattle.set.specs.Answers.{Ready, Starts}
-use Rattle.set.proofs.SetLaws.{passed-fit, boxes-tested}
+use Rattle.set.proofs.SetLaws.{outlines-length, passed-fit, passed-fitting, boxes-length}
 
 -- ---- what a query that passes the tests has
-pub record QueryPassed (v : List Float) (cs : List ℕ) (p : Point) (c l n : ℕ) : Type 0 where
-  pub ready : Ready v cs c l n
+pub record QueryPassed (v : List Float) (cs : List ℕ) (p : Point) (B : IndexBuffer) : Type 0 where
+  pub ready : Ready v cs B
   pub point : pointInField p ≡ true
 
-pub query-passed : (v : List Float) (cs : List ℕ) (p : Point) (c l n : ℕ) → setQueryTested v cs p c l n ≡ Passed → QueryPassed v cs p c l n
+pub query-passed : (v : List Float) (cs : List ℕ) (p : Point) (B : IndexBuffer) → setQueryTested v cs p B ≡ Passed → QueryPassed v cs p B
 unfolding setQueryTested
-query-passed v cs p c l n e =
-    let r = room-passed (shortIndex c l n) (pointTested p (setTested v cs)) e in
-    let q = point-passed p (setTested v cs) (r .1) in
-    let f = passed-fit v cs (q .1) in
-    let a = accepted-of (setBoxes v cs) c l n (r .0) (boxes-tested v cs f) in
-    record { ready = record { fit = f; corners = a .corners; links = a .links; items = a .items }; point = q .0 }
+query-passed v cs p B e =
+    let r = refusing-passed _ _ _ e in
+    let q = refusing-passed _ _ _ (r .0) in
+    let s = or-none (ltb (length (B .corners)) 2044) (ltb (length (B .links)) 1022 || ltb (length (B .items)) 1024) (r .1) in
+    let t = or-none (ltb (length (B .links)) 1022) (ltb (length (B .items)) 1024) (s .1) in
+    record {
+      ready = record {
+        fit = passed-fit v cs (q .0);
+        fitting = passed-fitting v cs (q .0);
+        corners = ltb-false (length (B .corners)) 2044 (s .0);
+        links = ltb-false (length (B .links)) 1022 (t .0);
+        items = ltb-false (length (B .items)) 1024 (t .1);
+      };
+      point = not-false (pointInField p) (q .1);
+    }
 
-pub fit-within : (v : List Float) (cs : List ℕ) → Fit v cs → 2 * startOf cs (length cs) ≤ length v
-fit-within v cs f = let t = f .total in omega arith
+-- ---- the boxes
+module _ (v : List Float) (cs : List ℕ) where
+  pub boxes-size : length (setBoxes (outlinesOf v cs)) ≡ 4 * length cs
+  boxes-size = boxes-length (outlinesOf v cs) ∙ ap (λ (n : ℕ). 4 * n) (outlines-length v cs)
+
+  -- the front of a list that they are put into
+  pub boxes-front : (X₀ X : List Float) → 4 * length cs ≤ length X₀ → X ≡ sets X₀ 0 (setBoxes (outlinesOf v cs)) → take (4 * length cs - 0) (drop 0 X) ≡ setBoxes (outlinesOf v cs)
+  boxes-front X₀ X room e = front-of X₀ X (setBoxes (outlinesOf v cs)) (4 * length cs) e boxes-size room
+
+  -- an index of them can be built
+  pub boxes-accepted : (B : IndexBuffer) → Ready v cs B → Accepted (setBoxes (outlinesOf v cs)) (length (B .corners)) (length (B .links)) (length (B .items))
+  boxes-accepted B r =
+      let n = boxes-size in
+      let s = r .fit .size in
+      record { size = omega arith; whole = omega arith; corners = r .corners; links = r .links; items = r .items }
 
 -- ---- the starts
 pub starts-put : (cs S₀ S : List ℕ) → length cs ≤ length S₀ → S ≡ sets S₀ 0 (run (startOf cs) 0 (length cs)) → Starts cs S

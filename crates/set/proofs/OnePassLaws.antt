@@ -4,11 +4,11 @@ use mathlib.Core.Bool.{Bool, true, false, cond, _||_}
 use mathlib.Core.List.{List, [], _∷_}
 use Prim.Native.Nat.{ℕ, _≤_, min}
 use native.Mathlib.Omega.{arith}
-use lib.Ieee.{Float}
 use Rattle.lists.specs.Lists.{fold, any}
 use Rattle.accept.specs.declared.Refusal.the-variants.{NotFinite, OutsideField, EqualNeighbours, ZeroArea, NegativeArea}
-use Rattle.accept.specs.declared.Test.the-variants.{Passed, Failed}
-use Rattle.accept.specs.Refusals.{notFinite, outsideField, equalNeighbours, zeroArea, negativeArea, valuesTested, signTested}
+use Rattle.accept.specs.declared.Test.the-variants.{Passed}
+use Rattle.accept.specs.Refusals.{_refusing_when_, notFinite, outsideField, equalNeighbours, zeroArea, negativeArea, valuesTested}
+use Rattle.set.specs.Set.{Outline}
 use Rattle.set.specs.Tests.{outlinesTested}
 use Rattle.set.specs.OnePass.{firstFailed, leastFailed, testAt, rankOf}
 
@@ -42,25 +42,25 @@ at-least true k n m h l = h
 at-least false k n m h l = l
 
 -- ---- the five tests
-abbrev from9 : List Float → ℕ
+abbrev from9 : Outline → ℕ
 from9 o = cond (negativeArea o) 9 10
 
-abbrev from8 : List Float → ℕ
+abbrev from8 : Outline → ℕ
 from8 o = cond (zeroArea o) 8 (from9 o)
 
-abbrev from7 : List Float → ℕ
+abbrev from7 : Outline → ℕ
 from7 o = cond (equalNeighbours o) 7 (from8 o)
 
-abbrev from6 : List Float → ℕ
+abbrev from6 : Outline → ℕ
 from6 o = cond (outsideField o) 6 (from7 o)
 
-least-is : (os : List (List Float)) → leastFailed os ≡ cond (any notFinite os) 5 (cond (any outsideField os) 6 (cond (any equalNeighbours os) 7 (cond (any zeroArea os) 8 (cond (any negativeArea os) 9 10))))
+least-is : (os : List Outline) → leastFailed os ≡ cond (any notFinite os) 5 (cond (any outsideField os) 6 (cond (any equalNeighbours os) 7 (cond (any zeroArea os) 8 (cond (any negativeArea os) 9 10))))
 unfolding leastFailed firstFailed
 least-is os =
-    let nine : (k : ℕ) → k ≤ 9 → (o : List Float) → k ≤ from9 o = λ k h o. at-least (negativeArea o) k 9 10 h (omega arith) in
-    let eight : (k : ℕ) → k ≤ 8 → (o : List Float) → k ≤ from8 o = λ k h o. at-least (zeroArea o) k 8 (from9 o) h (nine k (omega arith) o) in
-    let seven : (k : ℕ) → k ≤ 7 → (o : List Float) → k ≤ from7 o = λ k h o. at-least (equalNeighbours o) k 7 (from8 o) h (eight k (omega arith) o) in
-    let six : (k : ℕ) → k ≤ 6 → (o : List Float) → k ≤ from6 o = λ k h o. at-least (outsideField o) k 6 (from7 o) h (seven k (omega arith) o) in
+    let nine : (k : ℕ) → k ≤ 9 → (o : Outline) → k ≤ from9 o = λ k h o. at-least (negativeArea o) k 9 10 h (omega arith) in
+    let eight : (k : ℕ) → k ≤ 8 → (o : Outline) → k ≤ from8 o = λ k h o. at-least (zeroArea o) k 8 (from9 o) h (nine k (omega arith) o) in
+    let seven : (k : ℕ) → k ≤ 7 → (o : Outline) → k ≤ from7 o = λ k h o. at-least (equalNeighbours o) k 7 (from8 o) h (eight k (omega arith) o) in
+    let six : (k : ℕ) → k ≤ 6 → (o : Outline) → k ≤ from6 o = λ k h o. at-least (outsideField o) k 6 (from7 o) h (seven k (omega arith) o) in
     least-first notFinite from6 5 (six 5 (omega arith)) 10 os (omega arith)
     ∙ ap (cond (any notFinite os) 5) (least-first outsideField from7 6 (seven 6 (omega arith)) 10 os (omega arith)
     ∙ ap (cond (any outsideField os) 6) (least-first equalNeighbours from8 7 (eight 7 (omega arith)) 10 os (omega arith)
@@ -68,25 +68,25 @@ least-is os =
     ∙ ap (cond (any zeroArea os) 8) (least-first negativeArea (λ _. 10) 9 (λ _. omega arith) 10 os (omega arith)
     ∙ ap (cond (any negativeArea os) 9) (least-none 10 os)))))
 
-pub least-tests : (os : List (List Float)) → testAt (leastFailed os) ≡ outlinesTested os
+pub least-tests : (os : List Outline) → testAt (leastFailed os) ≡ outlinesTested os Passed
 unfolding outlinesTested
 least-tests os = ap testAt (least-is os) ∙ go (any notFinite os) (any outsideField os) (any equalNeighbours os) (any zeroArea os) (any negativeArea os)
   where
     go : (a b c d e : Bool) → testAt (cond a 5 (cond b 6 (cond c 7 (cond d 8 (cond e 9 10)))))
-        ≡ cond a (Failed NotFinite) (cond b (Failed OutsideField) (cond c (Failed EqualNeighbours) (cond d (Failed ZeroArea) (cond e (Failed NegativeArea) Passed))))
-    go true b c d e = unfold testAt in refl
-    go false true c d e = unfold testAt in refl
-    go false false true d e = unfold testAt in refl
-    go false false false true e = unfold testAt in refl
-    go false false false false true = unfold testAt in refl
-    go false false false false false = unfold testAt in refl
+        ≡ (Passed refusing NotFinite when a refusing OutsideField when b refusing EqualNeighbours when c refusing ZeroArea when d refusing NegativeArea when e)
+    go true b c d e = unfold testAt _refusing_when_ in refl
+    go false true c d e = unfold testAt _refusing_when_ in refl
+    go false false true d e = unfold testAt _refusing_when_ in refl
+    go false false false true e = unfold testAt _refusing_when_ in refl
+    go false false false false true = unfold testAt _refusing_when_ in refl
+    go false false false false false = unfold testAt _refusing_when_ in refl
 
 -- one outline's number is that of what its tests say
-pub rank-first : (o : List Float) → rankOf (signTested o (valuesTested o)) ≡ firstFailed o
-unfolding valuesTested signTested firstFailed
+pub rank-first : (o : Outline) → rankOf (valuesTested o refusing NegativeArea when negativeArea o) ≡ firstFailed o
+unfolding valuesTested firstFailed
 rank-first o = go (notFinite o) refl (outsideField o) refl (equalNeighbours o) refl (zeroArea o) refl (negativeArea o) refl
   where
-    go : (a : Bool) → notFinite o ≡ a → (b : Bool) → outsideField o ≡ b → (c : Bool) → equalNeighbours o ≡ c → (d : Bool) → zeroArea o ≡ d → (e : Bool) → negativeArea o ≡ e → rankOf (signTested o (valuesTested o)) ≡ firstFailed o
+    go : (a : Bool) → notFinite o ≡ a → (b : Bool) → outsideField o ≡ b → (c : Bool) → equalNeighbours o ≡ c → (d : Bool) → zeroArea o ≡ d → (e : Bool) → negativeArea o ≡ e → rankOf (valuesTested o refusing NegativeArea when negativeArea o) ≡ firstFailed o
     go true p b q c r d s e t = rw p
     go false p true q c r d s e t = rw (p, q)
     go false p false q true r d s e t = rw (p, q, r)

@@ -1,35 +1,33 @@
--- What a set that passes the tests has: its outlines' numbers are its list's, and their boxes pass the tests of boxes. Assumes nothing.
+-- The outlines that two lists are, what a set that passes the tests has, and that the boxes of its outlines pass the tests of boxes. Assumes nothing.
 use mathlib.Core.Path.{_≡_, refl, sym, ap, subst, _∙_}
-use mathlib.Core.Bool.{Bool, true, false, not, _||_}
-use mathlib.Core.List.{List, flatMap}
+use mathlib.Core.Bool.{Bool, true, false, not}
+use mathlib.Core.List.{List, [], flatMap}
 use Prim.Native.Nat.{ℕ, zero, suc, _+_, _-_, _*_, _%_, _≤_, _<_}
 use native.Mathlib.Nat.{add-zero, add-suc}
 use native.Mathlib.Numerals.{add-one}
 use native.Mathlib.Omega.{arith}
-use borrow.Author.Tests.{ltb-false, eqb-true, eqb-false, le-ltb, eq-eqb, ne-eqb, not-false}
+use borrow.Author.Tests.{ltb-true, ltb-false, eqb-true, eqb-false, le-ltb, eq-eqb, ne-eqb, not-false}
 use lib.Dec.{T, eqb, ltb}
 use lib.ListN.{length, getD, take, drop, length-take, length-drop, List·getD-eq-default}
-use lib.Seq.{take-all, take-add, getD-take, getD-drop}
+use lib.Seq.{ext-getD, getD-take, getD-drop}
 use lib.Ieee.{Float, nan, binary64, fits}
-use Rattle.boundary.specs.declared.Point.{Point}
 use Rattle.boundary.specs.declared.Bounds.{Bounds}
 use Rattle.boundary.specs.Boxes.{inField, FieldValue, FieldBox}
-use Rattle.lists.specs.Lists.{run, fold, any, oddly}
-use Rattle.boundary.specs.Outline.{count, vertices, edges}
-use Rattle.lists.proofs.RunLaws.{run-last, length-run, run-at}
-use Rattle.lists.proofs.FoldLaws.{any-at, or-none, any-append, none-of}
-use Rattle.accept.specs.declared.Refusal.the-variants.{OddCount, BadCounts, TooFew, TooMany, NotFinite, OutsideField, EqualNeighbours, ZeroArea, NegativeArea}
+use Rattle.lists.specs.Lists.{run, any}
+use Rattle.boundary.specs.Outline.{count}
+use Rattle.lists.proofs.FoldLaws.{any-at, or-none, none-of}
+use Rattle.accept.specs.declared.Test.{Test}
 use Rattle.accept.specs.declared.Test.the-variants.{Passed}
 use Rattle.accept.specs.Refusals.{notFinite, outsideField, equalNeighbours, zeroArea, negativeArea}
-use Rattle.accept.proofs.TestLaws.{passes, passes-else}
-use Rattle.geometry.specs.Polygon.{boundsOf, containsOf}
+use Rattle.accept.proofs.TestLaws.{refusing-passed}
 use Rattle.entries.specs.Entries.{boxCount, boxAt, boxNumbers, boxesOf}
 use Rattle.boundary.specs.Boxes.{boxFits}
 use Rattle.index.specs.Answers.{boxesTested}
 use Rattle.lists.proofs.StoreLaws.{flat-length}
+use Rattle.lists.proofs.RunLaws.{length-run, run-at}
 use Rattle.entries.proofs.EntryLaws.{box-held}
-use Rattle.set.specs.Set.{startOf, outlineAt, outlinesOf, setBoxes, Fit}
-use Rattle.set.specs.Tests.{addsUp, anyFew, anyMany, overSize, outlinesTested, sizesTested, setTested}
+use Rattle.set.specs.Set.{Outline, startOf, outlineAt, outlinesOf, outlineIn, outlineBox, setBox, setBoxes, Fit, Fitting, Doubles, DoubleSet}
+use Rattle.set.specs.Tests.{addsUp, anyMany, overSize, listsTested, outlinesTested, setTested}
 use Rattle.set.proofs.BoundsLaws.{InField, bounds-spanned, spanned-box, spanned-fits}
 
 -- ---- how many vertices stand before an outline
@@ -65,9 +63,6 @@ module _ (cs : List ℕ) where
 
 -- ---- an outline as the part of the list from `at` to `end`
 module _ (v : List Float) (cs : List ℕ) where
-  pub adds-within : eqb (startOf cs (length cs)) (count v) ≡ true → 2 * startOf cs (length cs) ≤ length v
-  adds-within e = let t = eqb-true (startOf cs (length cs)) (count v) e in omega arith
-
   pub part-within : 2 * startOf cs (length cs) ≤ length v → (k : ℕ) → k < length cs → 2 * startOf cs k + 2 * getD cs k 0 ≤ length v
   part-within w k l = let h = start-within cs k l in omega arith
 
@@ -75,174 +70,182 @@ module _ (v : List Float) (cs : List ℕ) where
   unfolding outlineAt
   part-is k at end e f = let z : end - at ≡ 2 * getD cs k 0 = omega arith in rw (z, e)
 
-  -- past the last outline there is none
-  pub contains-past : (k : ℕ) (p : Point) → length cs ≤ k → false ≡ containsOf (edges (outlineAt v cs k)) p
-  unfolding outlineAt containsOf oddly fold edges run
-  contains-past k p l = rw (List·getD-eq-default cs 0 l)
+-- ---- the list of outlines
+pub outlines-length : (v : List Float) (cs : List ℕ) → length (outlinesOf v cs) ≡ length cs
+unfolding outlinesOf
+outlines-length v cs = length-run (outlineAt v cs) 0 (length cs)
 
--- ---- the outlines have all numbers
-module _ (v : List Float) (cs : List ℕ) (p : Float → Bool) where
-  any-before : (k : ℕ) → any p (take (2 * startOf cs k) v) ≡ any (any p) (run (outlineAt v cs) 0 k)
-  unfolding startOf run outlineAt any
-  any-before zero = refl
-  any-before (suc k) =
-      let e : 2 * (startOf cs k + getD cs k 0) ≡ 2 * startOf cs k + 2 * getD cs k 0 = omega arith in
-      let z : 0 + k ≡ k = omega arith in
-      rw (e, take-add (2 * startOf cs k) (2 * getD cs k 0) v, any-append p (take (2 * startOf cs k) v) (take (2 * getD cs k 0) (drop (2 * startOf cs k) v)), any-before k)
-      (sym (ap (any (any p)) (run-last (outlineAt v cs) 0 k) ∙ any-append (any p) (run (outlineAt v cs) 0 k) _ ∙ ap (λ (j : ℕ). any (any p) (run (outlineAt v cs) 0 k) || any p (outlineAt v cs j)) z))
+-- outline k of the list is the part of v; past the last, both are empty
+pub outline-is : (v : List Float) (cs : List ℕ) (k : ℕ) → outlineIn (outlinesOf v cs) k ≡ outlineAt v cs k
+unfolding outlinesOf outlineAt
+outline-is v cs k = go (ltb k (length cs)) refl
+  where
+    go : (b : Bool) → ltb k (length cs) ≡ b → outlineIn (outlinesOf v cs) k ≡ outlineAt v cs k
+    go true e = let z : 0 + k ≡ k = omega arith in run-at (outlineAt v cs) 0 (length cs) k [] (ltb-true k (length cs) e) ∙ ap (outlineAt v cs) z
+    go false e =
+        let h = ltb-false k (length cs) e in
+        let n = length-run (outlineAt v cs) 0 (length cs) in
+        rw (List·getD-eq-default cs 0 {n = k} h) (List·getD-eq-default (run (outlineAt v cs) 0 (length cs)) [] {n = k} (omega arith))
 
-  pub any-number : length v ≡ 2 * startOf cs (length cs) → any p v ≡ any (any p) (outlinesOf v cs)
-  unfolding outlinesOf
-  any-number e = sym (ap (any p) (take-all (2 * startOf cs (length cs)) v (omega arith))) ∙ any-before (length cs)
+pub outline-past : (os : List Outline) (k : ℕ) → length os ≤ k → outlineIn os k ≡ []
+outline-past os k h = List·getD-eq-default os [] {n = k} h
 
 -- ---- what passing the tests tells
 even-of : (n : ℕ) → (n % 2 ≡ 1 → ⊥) → n % 2 ≡ 0
 even-of n h = omega arith
 
 -- what no outline of a set that passes has
-pub record Passing (os : List (List Float)) : Type 0 where
+pub record Passing (os : List Outline) : Type 0 where
   pub finite : any notFinite os ≡ false
   pub in-field : any outsideField os ≡ false
   pub apart : any equalNeighbours os ≡ false
   pub nonzero : any zeroArea os ≡ false
   pub positive : any negativeArea os ≡ false
 
-outlines-passing : (os : List (List Float)) → outlinesTested os ≡ Passed → Passing os
+outlines-passed : (os : List Outline) (t : Test) → outlinesTested os t ≡ Passed → (t ≡ Passed) × Passing os
 unfolding outlinesTested
-outlines-passing os e =
-    let t5 = passes (any notFinite os) NotFinite _ e in
-    let t6 = passes (any outsideField os) OutsideField _ (t5 .1) in
-    let t7 = passes (any equalNeighbours os) EqualNeighbours _ (t6 .1) in
-    let t8 = passes (any zeroArea os) ZeroArea _ (t7 .1) in
-    let t9 = passes (any negativeArea os) NegativeArea _ (t8 .1) in
-    record { finite = t5 .0; in-field = t6 .0; apart = t7 .0; nonzero = t8 .0; positive = t9 .0 }
+outlines-passed os t e =
+    let t9 = refusing-passed _ _ _ e in
+    let t8 = refusing-passed _ _ _ (t9 .0) in
+    let t7 = refusing-passed _ _ _ (t8 .0) in
+    let t6 = refusing-passed _ _ _ (t7 .0) in
+    let t5 = refusing-passed _ _ _ (t6 .0) in
+    (t5 .0, record { finite = t5 .1; in-field = t6 .1; apart = t7 .1; nonzero = t8 .1; positive = t9 .1 })
 
 pub passing : (v : List Float) (cs : List ℕ) → setTested v cs ≡ Passed → Passing (outlinesOf v cs)
-unfolding setTested sizesTested
-passing v cs e =
-    let t1 = passes (eqb (length v % 2) 1) OddCount _ e in
-    let t2 = passes-else (addsUp v cs) BadCounts _ (t1 .1) in
-    let t3 = passes (anyFew cs) TooFew _ (t2 .1) in
-    let t4 = passes (anyMany cs || overSize v cs) TooMany _ (t3 .1) in
-    outlines-passing (outlinesOf v cs) (t4 .1)
+unfolding setTested
+passing v cs e = outlines-passed (outlinesOf v cs) (listsTested v cs) e .1
 
-pub passed-fit : (v : List Float) (cs : List ℕ) → setTested v cs ≡ Passed → Fit v cs
-unfolding setTested sizesTested
-passed-fit v cs e =
-    let t1 = passes _ _ _ e in
-    let t2 = passes-else _ _ _ (t1 .1) in
-    let t3 = passes _ _ _ (t2 .1) in
-    let t4 = passes _ _ _ (t3 .1) in
-    let few = or-none _ _ (t4 .0) in
+-- lists that pass
+pub lists-fit : (v : List Float) (cs : List ℕ) → listsTested v cs ≡ Passed → Fit v cs
+unfolding listsTested
+lists-fit v cs e =
+    let t4 = refusing-passed _ _ _ e in
+    let t3 = refusing-passed _ _ _ (t4 .0) in
+    let t2 = refusing-passed _ _ _ (t3 .0) in
+    let t1 = refusing-passed _ _ _ (t2 .0) in
+    let few = or-none (anyMany cs) (overSize v cs) (t4 .1) in
     let size = or-none (ltb 1024 (length cs)) (ltb 65536 (count v)) (few .1) in
-    let even = even-of (length v) (eqb-false (length v % 2) 1 (t1 .0)) in
-    let total = eqb-true (startOf cs (length cs)) (count v) (t2 .0) in
     record {
       size = ltb-false 1024 (length cs) (size .0);
-      even = even;
-      total = total;
+      even = even-of (length v) (eqb-false (length v % 2) 1 (t1 .1));
+      total = eqb-true (startOf cs (length cs)) (count v) (not-false (addsUp v cs) (t2 .1));
       few = ltb-false 65536 (count v) (size .1);
-      least = λ k l. ltb-false (getD cs k 0) 3 (any-at (λ n. ltb n 3) 0 cs k l (t3 .0));
+      least = λ k l. ltb-false (getD cs k 0) 3 (any-at (λ n. ltb n 3) 0 cs k l (t3 .1));
       most = λ k l. ltb-false 4096 (getD cs k 0) (any-at (λ n. ltb 4096 n) 0 cs k l (few .0));
-      in-field = any-number v cs (λ x. not (inField x)) (omega arith) ∙ outlines-passing (outlinesOf v cs) (t4 .1) .in-field;
     }
 
--- ---- the outlines of such a set
-module _ (v : List Float) (cs : List ℕ) (fit : Fit v cs) (k : ℕ) (l : k < length cs) where
-  -- outline k ends in the list
-  pub outline-within : 2 * startOf cs k + 2 * getD cs k 0 ≤ length v
-  outline-within =
-      let h = start-within cs k l in
-      let t = fit .total in
-      let e = fit .even in
-      omega arith
+pub passed-fit : (v : List Float) (cs : List ℕ) → setTested v cs ≡ Passed → Fit v cs
+unfolding setTested
+passed-fit v cs e = lists-fit v cs (outlines-passed (outlinesOf v cs) (listsTested v cs) e .0)
 
+pub fit-within : (v : List Float) (cs : List ℕ) → Fit v cs → 2 * startOf cs (length cs) ≤ length v
+fit-within v cs f = let t = f .total in omega arith
+
+-- ---- the outlines of such lists
+module _ (v : List Float) (cs : List ℕ) (fit : Fit v cs) (k : ℕ) (l : k < length cs) where
   pub outline-length : length (outlineAt v cs k) ≡ 2 * getD cs k 0
   unfolding outlineAt
   outline-length =
       let a = length-take (2 * getD cs k 0) (drop (2 * startOf cs k) v) in
       let b = length-drop (2 * startOf cs k) v in
-      let h = outline-within in
+      let h = part-within v cs (fit-within v cs fit) k l in
       omega arith
 
   pub outline-count : count (outlineAt v cs k) ≡ getD cs k 0
   outline-count = let h = outline-length in omega arith
 
   -- it has vertices
-  pub outline-some : 0 < count (outlineAt v cs k)
+  outline-some : 0 < count (outlineAt v cs k)
   outline-some = let n = outline-count in let h = fit .least k l in omega arith
 
   -- its numbers are the list's
-  pub outline-number : (i : ℕ) (d : Float) → i < length (outlineAt v cs k) → getD (outlineAt v cs k) i d ≡ getD v (2 * startOf cs k + i) d
+  outline-number : (i : ℕ) (d : Float) → i < length (outlineAt v cs k) → getD (outlineAt v cs k) i d ≡ getD v (2 * startOf cs k + i) d
   unfolding outlineAt
   outline-number i d h =
       let n = outline-length in
       getD-take (2 * getD cs k 0) (drop (2 * startOf cs k) v) i d (omega arith) ∙ getD-drop (2 * startOf cs k) v i d
 
-  -- what holds of the list's numbers holds of its
-  pub outline-each : (P : Float → Type 0) → ((i : ℕ) → i < length v → P (getD v i nan)) → (i : ℕ) → i < length (outlineAt v cs k) → P (getD (outlineAt v cs k) i nan)
-  outline-each P h i m =
-      let n = outline-length in
-      let w = outline-within in
-      subst P (sym (outline-number i nan m)) (h (2 * startOf cs k + i) (omega arith))
+  outline-doubles : Doubles v → Doubles (outlineAt v cs k)
+  outline-doubles held = record {
+    each = λ i m.
+        let n = outline-length in
+        let w = part-within v cs (fit-within v cs fit) k l in
+        subst (λ (x : Float). T (fits binary64 x)) (sym (outline-number i nan m)) (held .each (2 * startOf cs k + i) (omega arith));
+  }
 
-  pub outline-in-field : any (λ x. not (inField x)) (outlineAt v cs k) ≡ false
-  outline-in-field = none-of (λ x. not (inField x)) nan (outlineAt v cs k) (outline-each (λ x. not (inField x) ≡ false) (λ i m. any-at (λ x. not (inField x)) nan v i m (fit .in-field)))
+module _ (v : List Float) (cs : List ℕ) where
+  -- where the lists are `f64`s, the outlines are
+  pub doubles-outlines : Fit v cs → Doubles v → DoubleSet (outlinesOf v cs)
+  doubles-outlines fit held k l = let n = outlines-length v cs in rw (outline-is v cs k) (outline-doubles v cs fit k (omega arith) held)
 
--- ---- their boxes
+  -- THE OUTLINES of an accepted set
+  pub passed-fitting : setTested v cs ≡ Passed → Fitting (outlinesOf v cs)
+  passed-fitting e =
+      let n = outlines-length v cs in
+      let f = passed-fit v cs e in
+      let s = f .size in
+      record { size = omega arith; some = λ k l. rw (outline-is v cs k) (outline-some v cs f k (omega arith)); in-field = passing v cs e .in-field }
+
+-- ---- the boxes of a set
 flat-of : {A B : Type 0} (f : B → List A) (h : ℕ → B) (i n : ℕ) {C : Type 0} (g : ℕ → C) (b : C → B) → ((j : ℕ) → b (g j) ≡ h j) → flatMap (λ c. f (b c)) (run g i n) ≡ flatMap f (run h i n)
 unfolding flatMap run
 flat-of f h i zero g b e = refl
 flat-of f h i (suc n) g b e = rw (e i, flat-of f h (suc i) n g b e)
 
-module _ (v : List Float) (cs : List ℕ) where
-  -- outline k's box
-  abbrev pub setBox : ℕ → Bounds
-  setBox k = boundsOf (vertices (outlineAt v cs k))
+-- a list is the run of its members
+run-members : {A : Type 0} (d : A) (xs : List A) → run (λ k. getD xs k d) 0 (length xs) ≡ xs
+run-members d xs =
+    let n = length-run (λ k. getD xs k d) 0 (length xs) in
+    ext-getD d (run (λ k. getD xs k d) 0 (length xs)) xs n
+    (λ i h. let l : i < length xs = rw n at h in let z : 0 + i ≡ i = omega arith in run-at (λ k. getD xs k d) 0 (length xs) i d l ∙ ap (λ (k : ℕ). getD xs k d) z)
 
-  boxes-flat : setBoxes v cs ≡ flatMap boxNumbers (run setBox 0 (length cs))
-  unfolding setBoxes outlinesOf
-  boxes-flat = flat-of boxNumbers setBox 0 (length cs) (outlineAt v cs) (λ o. boundsOf (vertices o)) (λ j. refl)
+module _ (os : List Outline) where
+  boxes-flat : setBoxes os ≡ flatMap boxNumbers (run (setBox os) 0 (length os))
+  unfolding setBoxes
+  boxes-flat = ap (flatMap (λ o. boxNumbers (outlineBox o))) (sym (run-members [] os)) ∙ flat-of boxNumbers (setBox os) 0 (length os) (outlineIn os) outlineBox (λ j. refl)
 
-  pub boxes-length : length (setBoxes v cs) ≡ 4 * length cs
-  boxes-length =
-      let a = ap length boxes-flat in
-      let b = flat-length boxNumbers 4 (λ _. refl) (run setBox 0 (length cs)) in
-      let c = length-run setBox 0 (length cs) in
-      omega arith
+  pub boxes-length : length (setBoxes os) ≡ 4 * length os
+  unfolding setBoxes
+  boxes-length = flat-length (λ o. boxNumbers (outlineBox o)) 4 (λ _. refl) os
 
-  pub box-at-set : (k : ℕ) → k < length cs → boxAt (setBoxes v cs) k ≡ setBox k
-  box-at-set k l = ap (λ (s : List Float). boxAt s k) boxes-flat ∙ box-held setBox (length cs) k l
+  pub box-at-set : (k : ℕ) → k < length os → boxAt (setBoxes os) k ≡ setBox os k
+  box-at-set k l = ap (λ (s : List Float). boxAt s k) boxes-flat ∙ box-held (setBox os) (length os) k l
 
-  module _ (fit : Fit v cs) where
-    number-in-field : (i : ℕ) → i < length v → InField (getD v i nan)
-    number-in-field i l = subst T (sym (not-false (inField (getD v i nan)) (any-at (λ x. not (inField x)) nan v i l (fit .in-field)))) tt
+  module _ (fit : Fitting os) where
+    pub outline-in-field : (k : ℕ) → k < length os → outsideField (outlineIn os k) ≡ false
+    outline-in-field k l = any-at outsideField [] os k l (fit .in-field)
 
-    pub set-box-fits : (k : ℕ) → k < length cs → boxFits (setBox k) ≡ true
-    set-box-fits k l = spanned-fits InField (λ x f. f) (setBox k) (bounds-spanned InField (λ x f. f) (outlineAt v cs k) (outline-some v cs fit k l) (outline-each v cs fit k l InField number-in-field))
+    number-in-field : (k : ℕ) → k < length os → (i : ℕ) → i < length (outlineIn os k) → InField (getD (outlineIn os k) i nan)
+    number-in-field k l i m = subst T (sym (not-false (inField (getD (outlineIn os k) i nan)) (any-at (λ x. not (inField x)) nan (outlineIn os k) i m (outline-in-field k l)))) tt
 
-    no-unfit : any (λ b. not (boxFits b)) (boxesOf (setBoxes v cs)) ≡ false
+    box-fits : (k : ℕ) → k < length os → boxFits (setBox os k) ≡ true
+    box-fits k l = spanned-fits InField (λ x f. f) (setBox os k) (bounds-spanned InField (λ x f. f) (outlineIn os k) (fit .some k l) (number-in-field k l))
+
+    no-unfit : any (λ b. not (boxFits b)) (boxesOf (setBoxes os)) ≡ false
     unfolding boxesOf
     no-unfit =
         let n = boxes-length in
-        let r = length-run (boxAt (setBoxes v cs)) 0 (boxCount (setBoxes v cs)) in
-        none-of (λ b. not (boxFits b)) (boxAt (setBoxes v cs) 0) (run (boxAt (setBoxes v cs)) 0 (boxCount (setBoxes v cs))) (λ i l. unfit i (omega arith) (omega arith))
+        let r = length-run (boxAt (setBoxes os)) 0 (boxCount (setBoxes os)) in
+        none-of (λ b. not (boxFits b)) (boxAt (setBoxes os) 0) (run (boxAt (setBoxes os)) 0 (boxCount (setBoxes os))) (λ i l. unfit i (omega arith) (omega arith))
       where
-        unfit : (i : ℕ) → i < length cs → i < boxCount (setBoxes v cs) → not (boxFits (getD (run (boxAt (setBoxes v cs)) 0 (boxCount (setBoxes v cs))) i (boxAt (setBoxes v cs) 0))) ≡ false
+        unfit : (i : ℕ) → i < length os → i < boxCount (setBoxes os) → not (boxFits (getD (run (boxAt (setBoxes os)) 0 (boxCount (setBoxes os))) i (boxAt (setBoxes os) 0))) ≡ false
         unfit i l m =
             let z : 0 + i ≡ i = omega arith in
-            ap (λ (b : Bounds). not (boxFits b)) (run-at (boxAt (setBoxes v cs)) 0 (boxCount (setBoxes v cs)) i (boxAt (setBoxes v cs) 0) m ∙ ap (boxAt (setBoxes v cs)) z ∙ box-at-set i l) ∙ ap not (set-box-fits i l)
+            ap (λ (b : Bounds). not (boxFits b)) (run-at (boxAt (setBoxes os)) 0 (boxCount (setBoxes os)) i (boxAt (setBoxes os) 0) m ∙ ap (boxAt (setBoxes os)) z ∙ box-at-set i l) ∙ ap not (box-fits i l)
 
     -- the boxes pass tests 4 and 11
-    pub boxes-tested : boxesTested (setBoxes v cs) ≡ Passed
+    pub boxes-tested : boxesTested (setBoxes os) ≡ Passed
     unfolding boxesTested
     boxes-tested =
         let n = boxes-length in
         let s = fit .size in
-        rw (le-ltb 4096 (length (setBoxes v cs)) (omega arith), eq-eqb (length (setBoxes v cs) % 4) 0 (omega arith), no-unfit)
+        rw (le-ltb 4096 (length (setBoxes os)) (omega arith), eq-eqb (length (setBoxes os) % 4) 0 (omega arith), no-unfit)
 
-    -- where the list's numbers are `f64`s, each box is one of the field
-    pub set-box-field : ((i : ℕ) → i < length v → T (fits binary64 (getD v i nan))) → (k : ℕ) → k < length cs → FieldBox (setBox k)
-    set-box-field held k l =
-        let number : (i : ℕ) → i < length v → FieldValue (getD v i nan) = λ i m. record { fits = held i m; in-field = number-in-field i m } in
-        spanned-box FieldValue (λ x f. f .in-field) (setBox k) (bounds-spanned FieldValue (λ x f. f .in-field) (outlineAt v cs k) (outline-some v cs fit k l) (outline-each v cs fit k l FieldValue number))
+    -- ---- where the numbers are `f64`s
+    module _ (held : DoubleSet os) (k : ℕ) (l : k < length os) where
+      pub outline-numbers : (i : ℕ) → i < length (outlineIn os k) → FieldValue (getD (outlineIn os k) i nan)
+      outline-numbers i m = record { fits = held k l .each i m; in-field = number-in-field k l i m }
+
+      pub box-field : FieldBox (setBox os k)
+      box-field = spanned-box FieldValue (λ x f. f .in-field) (setBox os k) (bounds-spanned FieldValue (λ x f. f .in-field) (outlineIn os k) (fit .some k l) outline-numbers)

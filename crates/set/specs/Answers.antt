@@ -1,42 +1,34 @@
--- The tests of a query over a set, and what it leaves in its working buffers. Definitions only.
+-- What the work of a query over a set needs, and what the query leaves. Definitions only.
 use mathlib.Core.Path.{_≡_}
 use mathlib.Core.List.{List}
 use Prim.Native.Nat.{ℕ, _≤_, _<_}
 use lib.ListN.{length, getD}
 use lib.Ieee.{Float}
-use Rattle.number.specs.Exact.{zeroᶠ}
 use Rattle.boundary.specs.declared.Point.{Point}
-use Rattle.accept.specs.declared.Test.{Test}
-use Rattle.lists.specs.Lists.{zeros}
-use Rattle.accept.specs.Lists.{writtenFor}
-use Rattle.set.specs.Set.{startOf, Fit}
+use Rattle.accept.specs.declared.Refusal.{Refusal}
+use Rattle.accept.specs.Answers.{Outcome}
+use Rattle.accept.specs.Refusals.{given}
+use Rattle.index.specs.Buffer.{IndexBuffer, cleared}
+use Rattle.set.specs.Set.{startOf, outlinesOf, Fit, Fitting}
 use Rattle.set.specs.Tests.{setQueryTested}
 
--- ---- a query whose working buffers are C, L and I: corners, links and items
--- the tests
-abbrev pub queryTested : List Float → List ℕ → Point → List Float → List ℕ → List ℕ → Test
-queryTested v cs p C L I = setQueryTested v cs p (length C) (length L) (length I)
+-- ---- a query with the index buffer B to work in
+-- work is done: its answer, and the buffer cleared
+abbrev pub worked : {A : Type 0} → A → IndexBuffer → Outcome A IndexBuffer
+worked a B = record { answer = a; lent = cleared B }
 
--- the buffers then: zeros in the 511 nodes and 1,024 items, the rest unchanged; all unchanged where the query is refused
-unfoldable pub clearedCorners : List Float → List ℕ → Point → List Float → List ℕ → List ℕ → List Float
-unfolding setQueryTested writtenFor
-clearedCorners v cs p C L I = writtenFor (zeros zeroᶠ 2044) C (queryTested v cs p C L I)
+-- a, or the refusal, and the buffer as it was
+unfoldable pub queryOutcome : {A : Type 0} → List Float → List ℕ → Point → IndexBuffer → A → (Refusal → A) → Outcome A IndexBuffer
+queryOutcome v cs p B a refused = given (setQueryTested v cs p B) (worked a B) (λ r. record { answer = refused r; lent = B })
 
-unfoldable pub clearedLinks : List Float → List ℕ → Point → List Float → List ℕ → List ℕ → List ℕ
-unfolding setQueryTested writtenFor
-clearedLinks v cs p C L I = writtenFor (zeros 0 1022) L (queryTested v cs p C L I)
-
-unfoldable pub clearedItems : List Float → List ℕ → Point → List Float → List ℕ → List ℕ → List ℕ
-unfolding setQueryTested writtenFor
-clearedItems v cs p C L I = writtenFor (zeros 0 1024) I (queryTested v cs p C L I)
-
--- ---- what the work of a query asks
--- a set that passes the tests, and buffers of index size
-pub record Ready (v : List Float) (cs : List ℕ) (c l n : ℕ) : Type 0 where
+-- ---- what the work asks
+-- a set that passes the tests, and an index buffer
+pub record Ready (v : List Float) (cs : List ℕ) (B : IndexBuffer) : Type 0 where
   pub fit : Fit v cs
-  pub corners : 2044 ≤ c
-  pub links : 1022 ≤ l
-  pub items : 1024 ≤ n
+  pub fitting : Fitting (outlinesOf v cs)
+  pub corners : 2044 ≤ length (B .corners)
+  pub links : 1022 ≤ length (B .links)
+  pub items : 1024 ≤ length (B .items)
 
 -- S holds how many vertices stand before each outline
 pub record Starts (cs S : List ℕ) : Type 0 where

@@ -3,7 +3,7 @@ use mathlib.Core.Bool.{cond}
 use mathlib.Core.List.{List}
 use Prim.Native.Nat.{ℕ, min}
 use lib.Dec.{eqb}
-use lib.Ieee.{Float, neg, lt, le, eq}
+use lib.Ieee.{neg, lt, le, eq}
 use Rattle.lists.specs.Lists.{fold, any}
 use Rattle.boundary.specs.Outline.{edges}
 use Rattle.accept.specs.declared.Refusal.the-variants.{NotFinite, OutsideField, EqualNeighbours, ZeroArea, NegativeArea}
@@ -11,14 +11,15 @@ use Rattle.accept.specs.declared.Test.{Test}
 use Rattle.accept.specs.declared.Test.the-variants.{Passed, Failed}
 use Rattle.accept.specs.Area.{areaOf}
 use Rattle.accept.specs.Refusals.{number, notFinite, outsideField, equalNeighbours, zeroArea, negativeArea}
+use Rattle.set.specs.Set.{Outline}
 
 -- the number of the first of the tests that an outline does not pass, 10 where it passes all
-unfoldable pub firstFailed : List Float → ℕ
+unfoldable pub firstFailed : Outline → ℕ
 unfolding any neg lt le eq edges areaOf
 firstFailed o = cond (notFinite o) 5 (cond (outsideField o) 6 (cond (equalNeighbours o) 7 (cond (zeroArea o) 8 (cond (negativeArea o) 9 10))))
 
 -- the least of these
-unfoldable pub leastFailed : List (List Float) → ℕ
+unfoldable pub leastFailed : List Outline → ℕ
 unfolding fold firstFailed
 leastFailed os = fold (λ n o. min n (firstFailed o)) 10 os
 

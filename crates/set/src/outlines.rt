@@ -1,4 +1,4 @@
-// The outlines of a set: where each begins, and its box.
+// The outlines of a set: where each begins, its numbers, and its box.
 ghost use mathlib.Core.Path.{_≡_};
 ghost use Prim.Native.Nat.{_-_, _*_, _≤_, _<_, _^_};
 ghost use lib.ListN.{length, take, drop};
@@ -7,7 +7,8 @@ ghost use Rattle.lists.specs.Lists.{run};
 ghost use Rattle.boundary.specs.Outline.{vertices};
 ghost use Rattle.geometry.specs.Polygon.{boundsOf};
 ghost use Rattle.entries.specs.Entries.{boxNumbers};
-ghost use Rattle.set.specs.Set.{startOf, setBoxes};
+ghost use Rattle.set.specs.Set.{startOf, outlinesOf, outlineIn, setBoxes};
+ghost use Rattle.set.specs.Answers.{Starts};
 use geometry::polygon;
 
 // How many vertices stand before each outline.
@@ -24,6 +25,19 @@ pub fn put_starts(counts: &[u32], starts: &mut [u32])
     }
 }
 
+// Outline k; past the last there is none.
+pub fn outline_at<'a>(v: &'a [f64], counts: &[u32], starts: &[u32], k: usize) -> &'a [f64]
+    requires { ⌜ (2 * startOf (now counts) (length (now counts)) ≤ length (now v)) × Starts (now counts) (now starts) ⌝ }
+    ensures { λ r. ⌜ now r ≡ outlineIn (outlinesOf (now (v .entry)) (now (counts .entry))) k ⌝ }
+{
+    if k < counts.len() {
+        let at = 2 * (lists::at(starts, k) as usize);
+        let end = at + 2 * (lists::at(counts, k) as usize);
+        return &v[at..end];
+    }
+    &v[0..0]
+}
+
 // Stores the box of the outline whose numbers stand from `at` to `end` as box k.
 fn put_box(v: &[f64], at: usize, end: usize, boxes: &mut [f64], k: usize)
     requires { ⌜ (at ≤ end) × (end ≤ length (now v)) × (k < 2 ^ 32) ⌝ }
@@ -35,7 +49,7 @@ fn put_box(v: &[f64], at: usize, end: usize, boxes: &mut [f64], k: usize)
 // The boxes of all outlines.
 pub fn put_boxes(v: &[f64], counts: &[u32], boxes: &mut [f64])
     requires { ⌜ (length (now counts) ≤ 1024) × (2 * startOf (now counts) (length (now counts)) ≤ length (now v)) ⌝ }
-    ensures { λ _. ⌜ now (boxes .exit) ≡ sets (now (boxes .entry)) 0 (setBoxes (now (v .entry)) (now (counts .entry))) ⌝ }
+    ensures { λ _. ⌜ now (boxes .exit) ≡ sets (now (boxes .entry)) 0 (setBoxes (outlinesOf (now (v .entry)) (now (counts .entry)))) ⌝ }
 {
     let mut at = 0;
     let mut k = 0;

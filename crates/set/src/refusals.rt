@@ -6,14 +6,15 @@ ghost use Prim.Native.Nat.{_-_, _*_, _≤_, min};
 ghost use lib.Dec.{eqb, ltb};
 ghost use lib.ListN.{length, take, drop};
 ghost use Rattle.lists.specs.Lists.{any};
+ghost use Rattle.index.specs.Buffer.{buffer};
 ghost use Rattle.set.specs.Set.{startOf, outlinesOf};
-ghost use Rattle.set.specs.Tests.{sizesTested, setTested, setQueryTested};
+ghost use Rattle.set.specs.Tests.{listsTested, setTested, setQueryTested};
 ghost use Rattle.set.specs.OnePass.{firstFailed, leastFailed, testAt, rankOf};
 use accept::Refusal;
 use accept::Test;
+use accept::refusals::in_field;
 use accept::refusals::number_of;
-use accept::refusals::point_tested;
-use accept::refusals::room_tested;
+use accept::refusals::refusing;
 use accept::refusals::sign_tested;
 use accept::refusals::test_of;
 use accept::refusals::values_tested;
@@ -111,31 +112,27 @@ fn test_at(n: u32) -> Test
     }
 }
 
-// Tests 3 to 9.
-fn sizes_tested(v: &[f64], counts: &[u32]) -> Test
-    requires { ⌜ 2 * startOf (now counts) (length (now counts)) ≤ length (now v) ⌝ }
-    ensures { λ r. ⌜ r ≡ sizesTested (now (v .entry)) (now (counts .entry)) ⌝ }
+// Tests 1 to 4.
+fn lists_tested(v: &[f64], counts: &[u32]) -> Test
+    ensures { λ r. ⌜ r ≡ listsTested (now (v .entry)) (now (counts .entry)) ⌝ }
 {
-    if any_off(counts, true) {
-        return Test::Failed(Refusal::TooFew);
-    }
-    if any_off(counts, false) | ((1024 < counts.len()) | (65536 < v.len() / 2)) {
-        return Test::Failed(Refusal::TooMany);
-    }
-    test_at(least_failed(v, counts))
+    let n = v.len() / 2;
+    let t = refusing(Test::Passed, Refusal::OddCount, v.len() % 2 == 1);
+    let t = refusing(t, Refusal::BadCounts, !adds_up(counts, n));
+    let t = refusing(t, Refusal::TooFew, any_off(counts, true));
+    let large = (1024 < counts.len()) | (65536 < n);
+    refusing(t, Refusal::TooMany, any_off(counts, false) | large)
 }
 
 // The tests of a set, 1 to 9.
 pub fn set_tested(v: &[f64], counts: &[u32]) -> Test
     ensures { λ r. ⌜ r ≡ setTested (now (v .entry)) (now (counts .entry)) ⌝ }
 {
-    if v.len() % 2 == 1 {
-        return Test::Failed(Refusal::OddCount);
+    let t = lists_tested(v, counts);
+    match t {
+        Test::Passed => test_at(least_failed(v, counts)),
+        Test::Failed(r) => Test::Failed(r),
     }
-    if adds_up(counts, v.len() / 2) {
-        return sizes_tested(v, counts);
-    }
-    Test::Failed(Refusal::BadCounts)
 }
 
 // The tests of a query, 13 the last.
@@ -143,12 +140,17 @@ pub fn query_tested(
     v: &[f64],
     counts: &[u32],
     p: Point,
-    corners: usize,
-    links: usize,
-    items: usize,
+    corners: &[f64],
+    links: &[u32],
+    items: &[u32],
 ) -> Test
-    ensures { λ r. ⌜ r ≡ setQueryTested (now (v .entry)) (now (counts .entry)) p corners links items ⌝ }
+    ensures { λ r. ⌜ r ≡ setQueryTested (now (v .entry)) (now (counts .entry)) p (buffer (now (corners .entry)) (now (links .entry)) (now (items .entry))) ⌝ }
 {
-    let t = point_tested(p, set_tested(v, counts));
-    room_tested(short_index(corners, links, items), t)
+    let inside = in_field(p.x) & in_field(p.y);
+    let t = refusing(set_tested(v, counts), Refusal::BadPoint, !inside);
+    refusing(
+        t,
+        Refusal::ShortBuffer,
+        short_index(corners.len(), links.len(), items.len()),
+    )
 }

@@ -2,12 +2,11 @@
 // an answer in the fields that it is lent; a refused call puts zeros there and leaves the lent lists as
 // they were.
 ghost use mathlib.Core.Path.{_≡_};
-ghost use lib.ListN.{length};
-ghost use Rattle.accept.specs.Answers.{numberOf, toldOf};
-ghost use Rattle.index.specs.Answers.{buildAnswer, builtCorners, builtLinks, builtItems, builtNumber, nodesIn, itemsIn};
-ghost use Rattle.records.specs.Records.{nodesAnswer, recordNodes, recordItems};
 ghost use Rattle.boundary.specs.Boxes.{cellOf};
-ghost use Rattle.meeting.specs.Answers.{meetingAnswer, meetingCorners, meetingLinks, meetingItems, meetingList};
+ghost use Rattle.index.specs.Buffer.{buffer};
+ghost use Rattle.index.specs.Answers.{buildCall};
+ghost use Rattle.records.specs.Records.{nodesCall};
+ghost use Rattle.meeting.specs.Answers.{meetingCall};
 use accept::answers;
 use boundary::Bounds;
 use boundary::Point;
@@ -22,15 +21,11 @@ pub extern "C" fn vk_index_build(
     node_count: &mut u32,
     item_count: &mut u32,
 ) -> u32
-    ensures { λ r. ⌜ (r ≡ builtNumber (buildAnswer (now (boxes .entry)) (now (corners .entry)) (now (links .entry)) (now (items .entry))))
-        × (now («node_count» .exit) ≡ nodesIn (buildAnswer (now (boxes .entry)) (now (corners .entry)) (now (links .entry)) (now (items .entry))))
-        × (now («item_count» .exit) ≡ itemsIn (buildAnswer (now (boxes .entry)) (now (corners .entry)) (now (links .entry)) (now (items .entry))))
-        × (now (corners .exit) ≡ builtCorners (now (boxes .entry)) (now (corners .entry)) (now (links .entry)) (now (items .entry)))
-        × (now (links .exit) ≡ builtLinks (now (boxes .entry)) (now (corners .entry)) (now (links .entry)) (now (items .entry)))
-        × (now (items .exit) ≡ builtItems (now (boxes .entry)) (now (corners .entry)) (now (links .entry)) (now (items .entry))) ⌝ }
+    ensures { λ r. ⌜ record { answer = record { number = r; nodes = now («node_count» .exit); items = now («item_count» .exit) }; lent = buffer (now (corners .exit)) (now (links .exit)) (now (items .exit)) }
+        ≡ buildCall (now (boxes .entry)) (buffer (now (corners .entry)) (now (links .entry)) (now (items .entry))) ⌝ }
 {
     let built = index::new(boxes, corners, links, items);
-    let told = index::answers::fields(built);
+    let told = index::answers::build_fields(built);
     *node_count = told.nodes;
     *item_count = told.items;
     told.number
@@ -45,11 +40,8 @@ pub extern "C" fn vk_index_nodes(
     node_count: &mut u32,
     item_count: &mut u32,
 ) -> u32
-    ensures { λ r. ⌜ (r ≡ builtNumber (nodesAnswer (now (boxes .entry)) (length (now (nodes .entry))) (length (now (items .entry)))))
-        × (now («node_count» .exit) ≡ nodesIn (nodesAnswer (now (boxes .entry)) (length (now (nodes .entry))) (length (now (items .entry)))))
-        × (now («item_count» .exit) ≡ itemsIn (nodesAnswer (now (boxes .entry)) (length (now (nodes .entry))) (length (now (items .entry)))))
-        × (now (nodes .exit) ≡ recordNodes (now (boxes .entry)) (now (nodes .entry)) (now (items .entry)))
-        × (now (items .exit) ≡ recordItems (now (boxes .entry)) (now (nodes .entry)) (now (items .entry))) ⌝ }
+    ensures { λ r. ⌜ record { answer = record { number = r; nodes = now («node_count» .exit); items = now («item_count» .exit) }; lent = record { nodes = now (nodes .exit); items = now (items .exit) } }
+        ≡ nodesCall (now (boxes .entry)) (now (nodes .entry)) (now (items .entry)) ⌝ }
 {
     let made = records::records(boxes, nodes.len(), items, node_count, item_count);
     records::offer(nodes, made.list, made.count);
@@ -69,18 +61,15 @@ pub extern "C" fn vk_index_meeting(
     list: &mut [u32],
     count: &mut u32,
 ) -> u32
-    ensures { λ r. ⌜ (r ≡ numberOf (meetingAnswer (now (boxes .entry)) (cellOf «min_x» «min_y» «max_x» «max_y») (now (corners .entry)) (now (links .entry)) (now (items .entry)) (now (list .entry))))
-        × (now (count .exit) ≡ toldOf (meetingAnswer (now (boxes .entry)) (cellOf «min_x» «min_y» «max_x» «max_y») (now (corners .entry)) (now (links .entry)) (now (items .entry)) (now (list .entry))))
-        × (now (corners .exit) ≡ meetingCorners (now (boxes .entry)) (cellOf «min_x» «min_y» «max_x» «max_y») (now (corners .entry)) (now (links .entry)) (now (items .entry)) (now (list .entry)))
-        × (now (links .exit) ≡ meetingLinks (now (boxes .entry)) (cellOf «min_x» «min_y» «max_x» «max_y») (now (corners .entry)) (now (links .entry)) (now (items .entry)) (now (list .entry)))
-        × (now (items .exit) ≡ meetingItems (now (boxes .entry)) (cellOf «min_x» «min_y» «max_x» «max_y») (now (corners .entry)) (now (links .entry)) (now (items .entry)) (now (list .entry)))
-        × (now (list .exit) ≡ meetingList (now (boxes .entry)) (cellOf «min_x» «min_y» «max_x» «max_y») (now (corners .entry)) (now (links .entry)) (now (items .entry)) (now (list .entry))) ⌝ }
+    ensures { λ r. ⌜ record { answer = record { number = r; count = now (count .exit) }; lent = record { buffer = buffer (now (corners .exit)) (now (links .exit)) (now (items .exit)); list = now (list .exit) } }
+        ≡ meetingCall (now (boxes .entry)) (cellOf «min_x» «min_y» «max_x» «max_y») (buffer (now (corners .entry)) (now (links .entry)) (now (items .entry))) (now (list .entry)) ⌝ }
 {
     let cell = Bounds {
         min: Point { x: min_x, y: min_y },
         max: Point { x: max_x, y: max_y },
     };
     let answer = meeting::meeting(boxes, cell, corners, links, items, list);
-    *count = answers::told_of(answer);
-    answers::number_of(answer)
+    let told = answers::count_fields(answer);
+    *count = told.count;
+    told.number
 }

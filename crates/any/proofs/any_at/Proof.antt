@@ -1,13 +1,21 @@
 -- `any::any_at` meets its contract. Assumes nothing.
-use mathlib.Core.Path.{sym, _∙_}
-use Rattle.accept.specs.Answers.{answerFor}
-use Rattle.accept.specs.Lists.{writtenFor}
-use Rattle.set.specs.Answers.{clearedCorners, clearedLinks, clearedItems}
+use mathlib.Core.Path.{sym, ap, _∙_}
+use mathlib.Core.Bool.{Bool, cond}
+use Rattle.accept.specs.declared.Answer.{Answer}
+use Rattle.accept.specs.declared.Answer.the-variants.{Told}
+use Rattle.accept.specs.Answers.{Outcome, inFields}
+use Rattle.accept.specs.Refusals.{given}
+use Rattle.index.specs.Buffer.{IndexBuffer}
+use Rattle.set.specs.Answers.{queryOutcome}
 use Rattle.set.proofs.AskLaws.{query-passed}
-use Rattle.any.specs.Answers.{anyAnswer}
+use Rattle.any.specs.Answers.{anyOutcome}
 use borrow.Author.Needs.{needs}
 use Rattle.any.proofs.any_at.Statement.{statement}
 use Rattle.any.proofs.any_at.Tie as tie
+
+-- yes is 1, and no is 0
+abbrev told : Bool → Answer
+told b = Told (cond b 1 0)
 
 query-tested-requires : tie.Need-query-tested-requires
 query-tested-requires c κs = search needs
@@ -16,7 +24,10 @@ enum-told : tie.Need-enum-told
 enum-told c = search needs
 
 any-of-requires : tie.Need-any-of-requires
-any-of-requires c κs = query-passed _ _ _ _ _ _ (sym (c .before .before .before .before .before .query-tested .ensures) ∙ c .before .before .before .enum-told .given .1) .ready
+any-of-requires c κs =
+    let e = c .before .before .before in
+    let q = e .before .before in
+    query-passed _ _ _ _ (sym (q .query-tested .ensures) ∙ e .enum-told .given .1) .ready
 
 enum-known-t : tie.Need-enum-known-t
 enum-known-t c = search needs
@@ -31,11 +42,13 @@ same-length-3 : tie.Need-same-length-3
 same-length-3 c = search needs
 
 returns : tie.Need-returns
-unfolding anyAnswer answerFor clearedCorners clearedLinks clearedItems writtenFor
+unfolding anyOutcome queryOutcome given
 returns c =
-    let e = sym (c .before .before .before .before .before .before .before .before .before .before .before .before .before .query-tested .ensures) ∙ c .before .before .before .before .before .before .before .before .before .before .before .enum-told .given .1 in
-    let a = c .before .before .before .before .before .before .before .any-of .ensures in
-    (rw (e, ← a .answer, c .if1 .taken), rw e (a .cleared .corners), rw e (a .cleared .links), rw e (a .cleared .items))
+    let a = c .before .before .before .before .before .before .before in
+    let e = a .before .before .before .before in
+    let q = e .before .before in
+    let m = ap (λ (o : Outcome Bool IndexBuffer). inFields told o) (a .any-of .ensures) in
+    rw (sym (q .query-tested .ensures) ∙ e .enum-told .given .1) (rw (c .if1 .taken) at m)
 
 same-length-4 : tie.Need-same-length-4
 same-length-4 c = search needs
@@ -47,17 +60,29 @@ same-length-6 : tie.Need-same-length-6
 same-length-6 c = search needs
 
 returns-2 : tie.Need-returns-2
-unfolding anyAnswer answerFor clearedCorners clearedLinks clearedItems writtenFor
+unfolding anyOutcome queryOutcome given
 returns-2 c =
-    let e = sym (c .before .before .before .before .before .before .before .before .before .before .before .before .before .query-tested .ensures) ∙ c .before .before .before .before .before .before .before .before .before .before .before .enum-told .given .1 in
-    let a = c .before .before .before .before .before .before .before .any-of .ensures in
-    (rw (e, ← a .answer, c .if1 .left), rw e (a .cleared .corners), rw e (a .cleared .links), rw e (a .cleared .items))
+    let a = c .before .before .before .before .before .before .before in
+    let e = a .before .before .before .before in
+    let q = e .before .before in
+    let m = ap (λ (o : Outcome Bool IndexBuffer). inFields told o) (a .any-of .ensures) in
+    rw (sym (q .query-tested .ensures) ∙ e .enum-told .given .1) (rw (c .if1 .left) at m)
+
+same-length-7 : tie.Need-same-length-7
+same-length-7 c = search needs
+
+same-length-8 : tie.Need-same-length-8
+same-length-8 c = search needs
+
+same-length-9 : tie.Need-same-length-9
+same-length-9 c = search needs
 
 returns-3 : tie.Need-returns-3
-unfolding anyAnswer answerFor clearedCorners clearedLinks clearedItems writtenFor
+unfolding anyOutcome queryOutcome given
 returns-3 c =
-    let e = sym (c .before .before .before .query-tested .ensures) ∙ c .before .t .given .1 in
-    (rw e, rw e, rw e, rw e)
+    let t = c .before in
+    let q = t .before .before in
+    rw (sym (q .query-tested .ensures) ∙ t .t .given .1)
 
 pub any-at-spec : {M : Type 1} → statement M
 any-at-spec =
@@ -75,4 +100,7 @@ any-at-spec =
     same-length-5
     same-length-6
     returns-2
+    same-length-7
+    same-length-8
+    same-length-9
     returns-3)

@@ -1,27 +1,20 @@
 -- `any::any_holds` meets its contract: the outlines so far do not contain the point, and those that are left give the answer. Assumes nothing.
 use mathlib.Core.Path.{_≡_, refl, sym, ap, _∙_}
-use mathlib.Core.Bool.{Bool, false}
-use mathlib.Core.List.{List}
-use Prim.Native.Nat.{ℕ, _-_, _≤_}
+use mathlib.Core.Bool.{false}
+use Prim.Native.Nat.{_-_, _≤_}
 use denote.Ref.{now}
 use lib.ListN.{length, getD, drop}
-use lib.Ieee.{Float}
-use Rattle.boundary.specs.declared.Point.{Point}
-use Rattle.lists.specs.Lists.{fold, any}
-use Rattle.boundary.specs.Outline.{edges}
 use Rattle.lists.proofs.FoldLaws.{fold-drop-end}
-use Rattle.geometry.specs.Polygon.{containsOf}
-use Rattle.set.specs.Set.{outlineAt}
+use Rattle.lists.specs.Lists.{fold, any}
+use Rattle.set.specs.Set.{outlinesOf}
+use Rattle.any.specs.Answers.{containsIn}
 use Rattle.any.proofs.AnyLaws.{step, found-at, missed-at}
 use borrow.Author.Needs.{needs}
 use Rattle.any.proofs.any_holds.Statement.{statement}
 use Rattle.any.proofs.any_holds.Tie as tie
 
-abbrev holds : List Float → List ℕ → Point → ℕ → Bool
-holds v cs p k = containsOf (edges (outlineAt v cs k)) p
-
 abbrev Inv-loop : tie.InvT-loop
-Inv-loop v counts starts list p i₀ i = (i ≤ length list) × (fold (step (holds v counts p)) false (drop i list) ≡ any (holds v counts p) list)
+Inv-loop v counts starts list p i₀ i = (i ≤ length list) × (fold (step (containsIn (outlinesOf v counts) p)) false (drop i list) ≡ any (containsIn (outlinesOf v counts) p) list)
 
 abbrev μ-loop : tie.MeasureT-loop
 μ-loop v counts starts list p i₀ i = length list - i
@@ -43,7 +36,7 @@ returns : tie.Need-returns Inv-loop μ-loop
 returns c =
     let l = c .before .before .before .before in
     let a = l .before .before .before .before .before .args in
-    let f = holds (now (a .v)) (now (a .counts)) (a .p) in
+    let f = containsIn (outlinesOf (now (a .v)) (now (a .counts))) (a .p) in
     let e : c .before .holds-at .result ≡ f (getD (now (a .list)) (l .loop .i) 0) = c .before .holds-at .ensures ∙ ap f (c .before .before .at .ensures) in
     found-at f 0 (now (a .list)) _ (c .before .before .before .loop-test .taken) (l .loop .inv .1) (sym e ∙ c .if1 .taken)
 
@@ -57,7 +50,7 @@ loop-again : tie.Need-loop-again Inv-loop μ-loop
 loop-again c =
     let l = c .before .before .before .before in
     let a = l .before .before .before .before .before .args in
-    let f = holds (now (a .v)) (now (a .counts)) (a .p) in
+    let f = containsIn (outlinesOf (now (a .v)) (now (a .counts))) (a .p) in
     let e : c .before .holds-at .result ≡ f (getD (now (a .list)) (l .loop .i) 0) = c .before .holds-at .ensures ∙ ap f (c .before .before .at .ensures) in
     (search needs, missed-at f 0 (now (a .list)) _ (c .before .before .before .loop-test .taken) (l .loop .inv .1) (sym e ∙ c .if1 .left))
 
@@ -65,7 +58,7 @@ returns-2 : tie.Need-returns-2 Inv-loop μ-loop
 returns-2 c =
     let l = c .before in
     let a = l .before .before .before .before .before .args in
-    sym (fold-drop-end (step (holds (now (a .v)) (now (a .counts)) (a .p))) false (now (a .list)) _ (l .loop .inv .0) (c .loop-test .left)) ∙ l .loop .inv .1
+    sym (fold-drop-end (step (containsIn (outlinesOf (now (a .v)) (now (a .counts))) (a .p))) false (now (a .list)) _ (l .loop .inv .0) (c .loop-test .left)) ∙ l .loop .inv .1
 
 pub any-holds-spec : {M : Type 1} → statement M
 any-holds-spec =

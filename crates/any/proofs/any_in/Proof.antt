@@ -1,7 +1,8 @@
 -- `any::any_in` meets its contract. Assumes nothing.
-use denote.Ref.{now}
 use native.Mathlib.Omega.{arith}
-use Rattle.set.proofs.AskLaws.{fit-within, starts-put}
+use Rattle.index.specs.Buffer.{buffer}
+use Rattle.set.proofs.SetLaws.{fit-within}
+use Rattle.set.proofs.AskLaws.{starts-put}
 use Rattle.any.proofs.ListedLaws.{ready-listed, listed-count, answered-of}
 use borrow.Author.Needs.{needs}
 use Rattle.any.proofs.any_in.Statement.{statement}
@@ -27,9 +28,11 @@ part-listed-end c = search needs
 
 listed-requires : tie.Need-listed-requires
 listed-requires c κs =
-    let d = c .before .before .before .before .before .before .before .before .before .before .before .before .before .before .before .before .before .before .before .before .before .before in
-    let a = d .args in
-    let r = ready-listed (now (a .v)) (now (a .counts)) (a .p) _ _ _ (d .pre .0) (now (a .boxes)) _ (d .pre .1) (c .before .before .before .before .before .before .before .before .before .before .before .before .put-boxes .ensures) in
+    let x = c .before .before .before .before .before .before .before .before .before .before .before .before in
+    let s = x .before .before .before .before .before .before .before .before .before .before in
+    let a = s .args in
+    let B = buffer (a .corners .now) (a .links .now) (a .items .now) in
+    let r = ready-listed (a .v .now) (a .counts .now) (a .p) B (s .pre .0) (a .boxes .now) _ (s .pre .1) (x .put-boxes .ensures) in
     (r .0, r .1, search needs)
 
 sub-any-holds : tie.Need-sub-any-holds
@@ -40,20 +43,25 @@ part-any-holds-start c = search needs
 
 part-any-holds-end : tie.Need-part-any-holds-end
 part-any-holds-end c =
-    let d = c .before .before .before .before .before .before .before .before .before .before .before .before .before .before .before .before .before .before .before .before .before .before .before .before .before .before .before .before .before .before .before .before .before in
-    let a = d .args in
-    let n = listed-count (now (a .v)) (now (a .counts)) (a .p) _ _ _ (d .pre .0) (now (a .boxes)) _ (d .pre .1) (c .before .before .before .before .before .before .before .before .before .before .before .before .before .before .before .before .before .before .before .before .before .before .before .put-boxes .ensures) _ _ _ _ _ _ _ _ _ (c .before .before .before .before .before .before .before .before .before .before .listed .ensures) in
-    let l = d .pre .3 in
+    let l = c .before .before .before .before .before .before .before .before .before .before in
+    let x = l .before .before .before .before .before .before .before .before .before .before .before .before .before in
+    let s = x .before .before .before .before .before .before .before .before .before .before in
+    let a = s .args in
+    let B = buffer (a .corners .now) (a .links .now) (a .items .now) in
+    let n = listed-count (a .v .now) (a .counts .now) (a .p) B (s .pre .0) (a .boxes .now) _ (s .pre .1) (x .put-boxes .ensures) _ _ _ _ (l .listed .ensures) in
+    let k = s .pre .3 in
     search needs
 
 any-holds-requires : tie.Need-any-holds-requires
 any-holds-requires c κs =
-    let d = c .before .before .before .before .before .before .before .before .before .before .before .before .before .before .before .before .before .before .before .before .before .before .before .before .before .before .before .before .before .before .before .before .before .before in
-    let a = d .args in
-    let f = d .pre .0 .fit in
+    let c0 = c .before .before .before .before .before .before .before .before .before .before .before .before .before .before in
+    let t = c0 .before .before .before .before .before .before in
+    let s = t .before .before .before .before .before .before .before .before .before .before .before .before .before .before in
+    let a = s .args in
+    let f = s .pre .0 .fit in
     let n = f .size in
-    let l = d .pre .2 in
-    (fit-within (now (a .v)) (now (a .counts)) f, starts-put (now (a .counts)) (now (a .starts)) _ (omega arith) (c .before .before .before .before .before .before .before .before .before .before .before .before .before .before .before .before .before .before .before .before .put-starts .ensures))
+    let l = s .pre .2 in
+    (fit-within (a .v .now) (a .counts .now) f, starts-put (a .counts .now) (a .starts .now) _ (omega arith) (t .put-starts .ensures))
 
 same-length : tie.Need-same-length
 same-length c = search needs
@@ -75,9 +83,13 @@ same-length-6 c = search needs
 
 returns : tie.Need-returns
 returns c =
-    let d = c .before .before .before .before .before .before .before .before .before .before .before .before .before .before .before .before .before .before .before .before .before .before .before .before .before .before .before .before .before .before .before .before .before .before .before in
-    let a = d .args in
-    answered-of (now (a .v)) (now (a .counts)) (a .p) _ _ _ (d .pre .0) (now (a .boxes)) _ (d .pre .1) (c .before .before .before .before .before .before .before .before .before .before .before .before .before .before .before .before .before .before .before .before .before .before .before .before .before .put-boxes .ensures) _ _ _ _ _ _ _ _ _ (c .before .before .before .before .before .before .before .before .before .before .before .before .listed .ensures) _ (c .any-holds .ensures)
+    let l = c .before .before .before .before .before .before .before .before .before .before .before .before in
+    let x = l .before .before .before .before .before .before .before .before .before .before .before .before .before in
+    let s = x .before .before .before .before .before .before .before .before .before .before in
+    let a = s .args in
+    let B = buffer (a .corners .now) (a .links .now) (a .items .now) in
+    let answered = answered-of (a .v .now) (a .counts .now) (a .p) B (s .pre .0) (a .boxes .now) _ (s .pre .1) (x .put-boxes .ensures) _ _ _ _ (l .listed .ensures) in
+    answered _ (c .any-holds .ensures)
 
 pub any-in-spec : {M : Type 1} → statement M
 any-in-spec =

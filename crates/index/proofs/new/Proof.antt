@@ -1,9 +1,8 @@
 -- `index::new` meets its contract. Assumes nothing.
-use Rattle.index.proofs.GrowLaws.{length-index-items, index-nodes, accepted}
-use Rattle.accept.specs.Lists.{writtenFor}
-use Rattle.index.specs.Answers.{builtFor, buildAnswer, builtCorners, builtLinks, builtItems}
+use Rattle.index.proofs.GrowLaws.{grown-nodes, index-nodes, accepted, built, build-refused}
+use Rattle.index.specs.Buffer.{buffer}
+use Rattle.index.specs.Answers.{buildTested}
 use native.Mathlib.Omega.{arith}
-use mathlib.Core.Path.{sym, _∙_}
 use borrow.Author.Needs.{needs}
 use Rattle.index.proofs.new.Statement.{statement}
 use Rattle.index.proofs.new.Tie as tie
@@ -15,19 +14,31 @@ enum-told : tie.Need-enum-told
 enum-told c = search needs
 
 grow-or-leaf-requires : tie.Need-grow-or-leaf-requires
-grow-or-leaf-requires c κs = accepted _ _ _ _ (sym (c .before .before .before .before .before .build-tested .ensures) ∙ c .before .before .before .enum-told .given .1)
+unfolding buildTested
+grow-or-leaf-requires c κs =
+    let a = c .before .before .before .before .before .before .before .before .before .before .args in
+    accepted (a .boxes .now) (buffer (a .corners .now) (a .links .now) (a .items .now))
+    (c .before .before .before .before .before .build-tested .ensures) (c .before .before .before .enum-told .given .1)
 
 cast-t18 : tie.Need-cast-t18
+unfolding buildTested
 cast-t18 c =
-    let A = accepted _ _ _ _ (sym (c .before .before .before .before .before .before .before .before .before .before .before .before .build-tested .ensures) ∙ c .before .before .before .before .before .before .before .before .before .before .enum-told .given .1) in
+    let b = c .before .before .before .before .before .before .before .before .before .before .before .before in
+    let a = b .before .before .before .before .before .args in
+    let A = accepted (a .boxes .now) (buffer (a .corners .now) (a .links .now) (a .items .now))
+    (b .build-tested .ensures) (c .before .before .before .before .before .before .before .before .before .before .enum-told .given .1) in
     let s = A .size in
-    let k = index-nodes (c .before .before .before .before .before .before .before .before .before .before .before .before .before .before .before .before .before .args .boxes .now) (omega arith) in
-    let n = c .before .before .before .before .before .before .grow-or-leaf .ensures .nodes in
+    let k = index-nodes (a .boxes .now) (omega arith) in
+    let n = grown-nodes _ _ (c .before .before .before .before .before .before .grow-or-leaf .ensures) in
     search needs
 
 cast-t21 : tie.Need-cast-t21
+unfolding buildTested
 cast-t21 c =
-    let A = accepted _ _ _ _ (sym (c .before .before .before .before .before .before .before .before .before .before .before .before .build-tested .ensures) ∙ c .before .before .before .before .before .before .before .before .before .before .enum-told .given .1) in
+    let b = c .before .before .before .before .before .before .before .before .before .before .before .before in
+    let a = b .before .before .before .before .before .args in
+    let A = accepted (a .boxes .now) (buffer (a .corners .now) (a .links .now) (a .items .now))
+    (b .build-tested .ensures) (c .before .before .before .before .before .before .before .before .before .before .enum-told .given .1) in
     let s = A .size in
     search needs
 
@@ -44,17 +55,20 @@ same-length-3 : tie.Need-same-length-3
 same-length-3 c = search needs
 
 returns : tie.Need-returns
-unfolding buildAnswer builtCorners builtLinks builtItems builtFor writtenFor
+unfolding buildTested
 returns c =
-    let e = sym (c .before .before .before .before .before .before .before .before .before .before .before .before .build-tested .ensures) ∙ c .before .before .before .before .before .before .before .before .before .before .enum-told .given .1 in
-    let g = c .before .before .before .before .before .before .grow-or-leaf .ensures in
-    (rw (e, g .nodes, length-index-items), rw e (g .corners), rw e (g .links), rw e (g .items))
+    let b = c .before .before .before .before .before .before .before .before .before .before .before .before in
+    let a = b .before .before .before .before .before .args in
+    built (a .boxes .now) (buffer (a .corners .now) (a .links .now) (a .items .now))
+    (b .build-tested .ensures) (c .before .before .before .before .before .before .before .before .before .before .enum-told .given .1)
+    (c .before .before .before .before .before .before .grow-or-leaf .ensures)
 
 returns-2 : tie.Need-returns-2
-unfolding buildAnswer builtCorners builtLinks builtItems builtFor writtenFor
+unfolding buildTested
 returns-2 c =
-    let e = sym (c .before .before .before .build-tested .ensures) ∙ c .before .t .given .1 in
-    (rw e, rw e, rw e, rw e)
+    let b = c .before .before .before in
+    let a = b .before .before .before .before .before .args in
+    build-refused (a .boxes .now) (buffer (a .corners .now) (a .links .now) (a .items .now)) (b .build-tested .ensures) (c .before .t .given .1)
 
 pub new-spec : {M : Type 1} → statement M
 new-spec =

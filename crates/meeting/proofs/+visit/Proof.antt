@@ -1,5 +1,6 @@
 -- `meeting::visit` meets its contract. The measure is the depth. Assumes nothing.
-use Rattle.meeting.proofs.WalkLaws.{two-runs, no-run, same-run, hits-none, hits-apart, hits-leaf, hits-inner}
+use Rattle.meeting.proofs.WalkLaws.{put-within, two-runs, no-run, same-run, hits-none, hits-apart, hits-leaf, hits-inner}
+use Rattle.index.specs.Buffer.{buffer}
 use Rattle.meeting.specs.Walk.{hits}
 use Prim.Native.Nat.{_+_, _-_}
 use mathlib.Core.Path.{sym, _∙_}
@@ -37,7 +38,7 @@ visit-returns : (t : ℕ) → visit-lts.Need-returns (
 ) (visit-at t) visit.Post
 visit-returns t c =
     let a = c .before .before .before .before .before .args in
-    same-run _ _ _ _ _ _ (hits-none (a .corners .now) (a .links .now) (a .items .now) (a .c) (a .n) (a .depth) (c .if1 .taken)) (no-run _ _ (c .before .before .before .before .before .pre .1 .1))
+    same-run _ _ _ _ _ _ (hits-none (buffer (a .corners .now) (a .links .now) (a .items .now)) (a .c) (a .n) (a .depth) (c .if1 .taken)) (no-run _ _ (c .before .before .before .before .before .pre .1 .1))
 
 visit-misses-requires : (t : ℕ) → visit-lts.Need-misses-requires (
   misses-reads.Asked,
@@ -63,7 +64,7 @@ visit-returns-2 : (t : ℕ) → visit-lts.Need-returns-2 (
 ) (visit-at t) visit.Post
 visit-returns-2 t c =
     let a = c .before .before .before .before .before .before .before .args in
-    same-run _ _ _ _ _ _ (hits-apart (a .corners .now) (a .links .now) (a .items .now) (a .c) (a .n) (a .depth) (sym (c .before .misses .ensures) ∙ c .if2 .taken)) (no-run _ _ (c .before .before .before .before .before .before .before .pre .1 .1))
+    same-run _ _ _ _ _ _ (hits-apart (buffer (a .corners .now) (a .links .now) (a .items .now)) (a .c) (a .n) (a .depth) (sym (c .before .misses .ensures) ∙ c .if2 .taken)) (no-run _ _ (c .before .before .before .before .before .before .before .pre .1 .1))
 
 visit-mul-at : (t : ℕ) → visit-lts.Need-mul-at (
   misses-reads.Asked,
@@ -186,7 +187,7 @@ visit-returns-3 : (t : ℕ) → visit-lts.Need-returns-3 (
 visit-returns-3 t c =
     let a = c .before .before .before .before .before .before .before .before .before .before .before .before .before .before .args in
     same-run _ _ _ _ _ _
-    (hits-leaf (a .corners .now) (a .links .now) (a .items .now) (a .c) (a .n) (a .depth) (c .before .before .before .before .before .before .at .result) (c .before .before .before .before .before .at2 .result) (c .before .before .before .before .before .before .before .before .before .if1 .left) (sym (c .before .before .before .before .before .before .before .before .misses .ensures) ∙ c .before .before .before .before .before .before .before .if2 .left) (c .before .before .before .before .before .before .at .ensures) (c .before .before .before .before .before .at2 .ensures) (c .before .before .before .before .if3 .taken))
+    (hits-leaf (buffer (a .corners .now) (a .links .now) (a .items .now)) (a .c) (a .n) (a .depth) (c .before .before .before .before .before .before .at .result) (c .before .before .before .before .before .at2 .result) (c .before .before .before .before .before .before .before .before .before .if1 .left) (sym (c .before .before .before .before .before .before .before .before .misses .ensures) ∙ c .before .before .before .before .before .before .before .if2 .left) (c .before .before .before .before .before .before .at .ensures) (c .before .before .before .before .before .at2 .ensures) (c .before .before .before .before .if3 .taken))
     (c .before .before .copy .ensures)
 
 visit-sub-visit : (t : ℕ) → visit-lts.Need-sub-visit (
@@ -247,7 +248,7 @@ visit-visit-requires-2 : (t : ℕ) → visit-lts.Need-visit-requires-2 (
   visit-below t,
   visit.Post,
 ) (visit-at t) visit.Post
-visit-visit-requires-2 t c κs = search needs
+visit-visit-requires-2 t c κs = let w = put-within _ _ _ _ _ (c .before .before .before .visit .ensures) in search needs
 
 visit-same-length-2 : (t : ℕ) → visit-lts.Need-same-length-2 (
   misses-reads.Asked,
@@ -273,13 +274,11 @@ visit-returns-4 : (t : ℕ) → visit-lts.Need-returns-4 (
 ) (visit-at t) visit.Post
 visit-returns-4 t c =
     let a = c .before .before .before .before .before .before .before .before .before .before .before .before .before .before .before .before .before .before .args in
-    let B = a .corners .now in
-    let L = a .links .now in
-    let I = a .items .now in
+    let B = buffer (a .corners .now) (a .links .now) (a .items .now) in
     let f = c .before .before .before .before .before .before .before .before .before .before .at .result in
     same-run _ _ _ _ _ _
-    (hits-inner B L I (a .c) (a .n) (a .depth) f (c .before .before .before .before .before .before .before .before .before .at2 .result) (c .before .before .before .before .before .before .before .before .before .before .before .before .before .if1 .left) (sym (c .before .before .before .before .before .before .before .before .before .before .before .before .misses .ensures) ∙ c .before .before .before .before .before .before .before .before .before .before .before .if2 .left) (c .before .before .before .before .before .before .before .before .before .before .at .ensures) (c .before .before .before .before .before .before .before .before .before .at2 .ensures) (c .before .before .before .before .before .before .before .before .if3 .left))
-    (two-runs _ _ _ _ (c .before .before .before .before .before .before .visit .result) _ (hits (a .depth - 1) B L I (a .c) f) (hits (a .depth - 1) B L I (a .c) (f + 1)) (c .before .before .before .before .before .before .visit .ensures) (c .before .before .visit2 .ensures))
+    (hits-inner B (a .c) (a .n) (a .depth) f (c .before .before .before .before .before .before .before .before .before .at2 .result) (c .before .before .before .before .before .before .before .before .before .before .before .before .before .if1 .left) (sym (c .before .before .before .before .before .before .before .before .before .before .before .before .misses .ensures) ∙ c .before .before .before .before .before .before .before .before .before .before .before .if2 .left) (c .before .before .before .before .before .before .before .before .before .before .at .ensures) (c .before .before .before .before .before .before .before .before .before .at2 .ensures) (c .before .before .before .before .before .before .before .before .if3 .left))
+    (two-runs _ _ _ _ (c .before .before .before .before .before .before .visit .result) _ (hits (a .depth - 1) B (a .c) f) (hits (a .depth - 1) B (a .c) (f + 1)) (c .before .before .before .before .before .before .visit .ensures) (c .before .before .visit2 .ensures))
 
 pub +visit-spec : {M : Type 1} → statement M
 +visit-spec = close μ-visit λ t. visit-lts.spec (

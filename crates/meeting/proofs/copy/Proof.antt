@@ -1,7 +1,6 @@
 -- `meeting::copy` meets its contract: the items so far are stored. Assumes nothing.
-use Rattle.meeting.proofs.WalkLaws.{no-run, next-item}
+use Rattle.meeting.proofs.WalkLaws.{Puts, put-within, no-run, next-item}
 use Rattle.nodes.specs.Layout.{itemAt}
-use Rattle.meeting.specs.Walk.{Put}
 use Rattle.lists.specs.Lists.{run}
 use lib.ListN.{length}
 use native.Mathlib.Nat.{le-antisymm}
@@ -12,7 +11,7 @@ use Rattle.meeting.proofs.copy.Statement.{statement}
 use Rattle.meeting.proofs.copy.Tie as tie
 
 abbrev Inv-loop : tie.InvT-loop
-Inv-loop items first count list₀ k i₀ j₀ list i j = (i ≤ count) × (j ≤ length list) × (length list ≡ length list₀) × Put list₀ k (run (itemAt items) first i) list j
+Inv-loop items first count list₀ k i₀ j₀ list i j = (i ≤ count) × (j ≤ length list) × (length list ≡ length list₀) × Puts list₀ k (run (itemAt items) first i) list j
 
 abbrev μ-loop : tie.MeasureT-loop
 μ-loop items first count list₀ k i₀ j₀ list i j = count - i
@@ -42,7 +41,7 @@ loop-again : tie.Need-loop-again Inv-loop μ-loop
 loop-again c =
     let inv = c .before .before .before .before .before .before .loop .inv in
     let g = itemAt (c .before .before .before .before .before .before .before .before .before .args .items .now) in
-    (search needs, search needs, search needs, next-item g _ _ _ _ _ _ _ _ _ (inv .3) (c .before .before .before .at .ensures) (c .before .before .push .ensures .0) (c .before .before .push .ensures .1))
+    (search needs, put-within _ _ _ _ _ (c .before .before .push .ensures), search needs, next-item g _ _ _ _ _ _ _ _ _ (inv .3) (c .before .before .before .at .ensures) (c .before .before .push .ensures))
 
 same-length : tie.Need-same-length Inv-loop μ-loop
 same-length c = c .before .loop .inv .2

@@ -1,5 +1,7 @@
 -- `meeting::listed` meets its contract. Assumes nothing.
 use Rattle.meeting.proofs.MeetingLaws.{listed-of}
+use Rattle.index.specs.Buffer.{buffer}
+use Rattle.index.proofs.Theorems.{index-levels}
 use borrow.Author.Needs.{needs}
 use Rattle.meeting.proofs.listed.Statement.{statement}
 use Rattle.meeting.proofs.listed.Tie as tie
@@ -32,7 +34,9 @@ returns c =
     let g = w .before .before .before .before .before .before .before .before .before .before .before in
     let s = g .before .before .before .before .before .before .before .before .before in
     let a = s .args in
-    listed-of (a .boxes .now) (a .c) (s .pre .1) (a .corners .now) (a .links .now) (a .items .now) (g .grow-or-leaf .last .1 .0) _ (g .grow-or-leaf .last .1 .1 .0) _ (g .grow-or-leaf .last .1 .1 .1 .0) _ (a .list .now) _ (g .grow-or-leaf .result) _
+    let B = buffer (a .corners .now) (a .links .now) (a .items .now) in
+    let D = buffer (g .grow-or-leaf .last .1 .0) (g .grow-or-leaf .last .1 .1 .0) (g .grow-or-leaf .last .1 .1 .1 .0) in
+    listed-of (a .boxes .now) (a .c) (s .pre .1) B _ D _ (a .list .now) _ (g .grow-or-leaf .result) _ (index-levels (a .boxes .now) (s .pre .1))
     (s .pre .0) (s .pre .2) (g .grow-or-leaf .ensures) (w .walk .ensures) (z .clear .ensures)
 
 pub listed-spec : {M : Type 1} → statement M

@@ -1,11 +1,9 @@
 -- `meeting::meeting` meets its contract. Assumes nothing.
-use Rattle.meeting.proofs.MeetingLaws.{length-meeting, meeting-accepted}
-use Rattle.meeting.specs.Answers.{meetingAnswer, meetingCorners, meetingLinks, meetingItems, meetingList}
+use Rattle.meeting.proofs.MeetingLaws.{length-meeting, listing-count, meeting-accepted, met, meeting-refused}
+use Rattle.meeting.specs.Answers.{meetingTested}
+use Rattle.index.specs.Buffer.{buffer}
 use Rattle.index.proofs.GrowLaws.{length-index-items}
 use Rattle.splits.specs.Tree.{indexOf}
-use Rattle.accept.specs.Answers.{answerFor}
-use Rattle.accept.specs.Lists.{writtenFor}
-use mathlib.Core.Path.{sym, _∙_}
 use borrow.Author.Needs.{needs}
 use Rattle.meeting.proofs.meeting.Statement.{statement}
 use Rattle.meeting.proofs.meeting.Tie as tie
@@ -17,15 +15,24 @@ enum-told : tie.Need-enum-told
 enum-told c = search needs
 
 listed-requires : tie.Need-listed-requires
-listed-requires c κs = meeting-accepted _ _ _ _ _ _ (sym (c .before .before .before .before .before .before .tested .ensures) ∙ c .before .before .before .before .enum-told .given .1)
+unfolding meetingTested
+listed-requires c κs =
+    let b = c .before .before .before .before .before .before in
+    let a = b .before .before .before .before .before .before .args in
+    meeting-accepted (a .boxes .now) (a .c) (buffer (a .corners .now) (a .links .now) (a .items .now)) (a .list .now)
+    (b .tested .ensures) (c .before .before .before .before .enum-told .given .1)
 
 cast-t23 : tie.Need-cast-t23
+unfolding meetingTested
 cast-t23 c =
-    let A = meeting-accepted _ _ _ _ _ _ (sym (c .before .before .before .before .before .before .before .before .before .before .before .before .before .before .before .tested .ensures) ∙ c .before .before .before .before .before .before .before .before .before .before .before .before .before .enum-told .given .1) in
-    let s = A .0 .size in
-    let n = length-index-items (c .before .before .before .before .before .before .before .before .before .before .before .before .before .before .before .before .before .before .before .before .before .args .boxes .now) in
-    let m = length-meeting (c .before .before .before .before .before .before .before .before .before .before .before .before .before .before .before .before .before .before .before .before .before .args .c) (indexOf (c .before .before .before .before .before .before .before .before .before .before .before .before .before .before .before .before .before .before .before .before .before .args .boxes .now)) in
-    let k = c .before .before .before .before .before .before .before .before .listed .ensures .count in
+    let b = c .before .before .before .before .before .before .before .before .before .before .before .before .before .before .before in
+    let a = b .before .before .before .before .before .before .args in
+    let e = c .before .before .before .before .before .before .before .before .before .before .before .before .before .enum-told .given .1 in
+    let B = buffer (a .corners .now) (a .links .now) (a .items .now) in
+    let s = meeting-accepted (a .boxes .now) (a .c) B (a .list .now) (b .tested .ensures) e .0 .size in
+    let n = length-index-items (a .boxes .now) in
+    let m = length-meeting (a .c) (indexOf (a .boxes .now)) in
+    let k = listing-count (a .boxes .now) (a .c) B (a .list .now) (c .before .before .before .before .before .before .before .before .listed .ensures) in
     search needs
 
 enum-known-t : tie.Need-enum-known-t
@@ -44,17 +51,20 @@ same-length-4 : tie.Need-same-length-4
 same-length-4 c = search needs
 
 returns : tie.Need-returns
-unfolding meetingAnswer answerFor meetingCorners meetingLinks meetingItems meetingList writtenFor
+unfolding meetingTested
 returns c =
-    let e = sym (c .before .before .before .before .before .before .before .before .before .before .before .before .before .before .before .tested .ensures) ∙ c .before .before .before .before .before .before .before .before .before .before .before .before .before .enum-told .given .1 in
-    let l = c .before .before .before .before .before .before .before .before .listed .ensures in
-    (rw (e, l .count), rw e (l .cleared .corners), rw e (l .cleared .links), rw e (l .cleared .items), rw e (l .list))
+    let b = c .before .before .before .before .before .before .before .before .before .before .before .before .before .before .before in
+    let a = b .before .before .before .before .before .before .args in
+    let e = c .before .before .before .before .before .before .before .before .before .before .before .before .before .enum-told .given .1 in
+    met (a .boxes .now) (a .c) (buffer (a .corners .now) (a .links .now) (a .items .now)) (a .list .now) (b .tested .ensures) e
+    (c .before .before .before .before .before .before .before .before .listed .ensures)
 
 returns-2 : tie.Need-returns-2
-unfolding meetingAnswer answerFor meetingCorners meetingLinks meetingItems meetingList writtenFor
+unfolding meetingTested
 returns-2 c =
-    let e = sym (c .before .before .before .tested .ensures) ∙ c .before .t .given .1 in
-    (rw e, rw e, rw e, rw e, rw e)
+    let b = c .before .before .before in
+    let a = b .before .before .before .before .before .before .args in
+    meeting-refused (a .boxes .now) (a .c) (buffer (a .corners .now) (a .links .now) (a .items .now)) (a .list .now) (b .tested .ensures) (c .before .t .given .1)
 
 pub meeting-spec : {M : Type 1} → statement M
 meeting-spec =

@@ -1,5 +1,4 @@
 -- `meeting::tested` meets its contract. Assumes nothing.
-use Rattle.meeting.specs.Answers.{meetingTested}
 use borrow.Author.Needs.{needs}
 use Rattle.meeting.proofs.tested.Statement.{statement}
 use Rattle.meeting.proofs.tested.Tie as tie
@@ -7,25 +6,33 @@ use Rattle.meeting.proofs.tested.Tie as tie
 boxes-tested-requires : tie.Need-boxes-tested-requires
 boxes-tested-requires c κs = search needs
 
-cell-tested-requires : tie.Need-cell-tested-requires
-cell-tested-requires c κs = search needs
+box-fits-requires : tie.Need-box-fits-requires
+box-fits-requires c κs = search needs
+
+refusing-requires : tie.Need-refusing-requires
+refusing-requires c κs = search needs
 
 short-index-requires : tie.Need-short-index-requires
 short-index-requires c κs = search needs
 
-room-tested-requires : tie.Need-room-tested-requires
-room-tested-requires c κs = search needs
+refusing-requires-2 : tie.Need-refusing-requires-2
+refusing-requires-2 c κs = search needs
+
+refusing-requires-3 : tie.Need-refusing-requires-3
+refusing-requires-3 c κs = search needs
 
 returns : tie.Need-returns
-unfolding meetingTested
-returns c = rw (c .room-tested .ensures, c .before .short-index .ensures, c .before .before .cell-tested .ensures, c .before .before .before .boxes-tested .ensures)
+returns c =
+    rw (c .refusing3 .ensures, c .before .refusing2 .ensures, c .before .before .short-index .ensures, c .before .before .before .refusing .ensures, c .before .before .before .before .box-fits .ensures, c .before .before .before .before .before .boxes-tested .ensures)
 
 pub tested-spec : {M : Type 1} → statement M
 tested-spec =
     tie.close
     (tie.spec
     boxes-tested-requires
-    cell-tested-requires
+    box-fits-requires
+    refusing-requires
     short-index-requires
-    room-tested-requires
+    refusing-requires-2
+    refusing-requires-3
     returns)

@@ -1,7 +1,12 @@
 -- `nearest::answered` meets its contract. Assumes nothing.
-use mathlib.Core.Path.{ap}
+use mathlib.Core.Path.{sym, ap, _∙_}
 use borrow.Author.Tests.{eq-eqb, ne-eqb}
-use Rattle.nearest.specs.declared.Nearest.the-variants.{At}
+use Rattle.accept.specs.Answers.{Outcome, inFields}
+use Rattle.index.specs.Buffer.{IndexBuffer}
+use Rattle.search.specs.declared.Best.{Best}
+use Rattle.set.proofs.SetLaws.{outlines-length}
+use Rattle.nearest.specs.declared.Nearest.{Nearest}
+use Rattle.nearest.specs.declared.Nearest.the-variants.{None, At}
 use Rattle.nearest.specs.Nearest.{nearestIn}
 use borrow.Author.Needs.{needs}
 use Rattle.nearest.proofs.answered.Statement.{statement}
@@ -21,7 +26,13 @@ same-length-3 c = search needs
 
 returns : tie.Need-returns
 unfolding nearestIn
-returns c = (rw (eq-eqb _ 0 (c .before .before .before .before .before .before .before .before .before .before .if1 .taken)), c .before .before .before .before .before .before .clear .ensures)
+returns c =
+    let k = c .before .before .before .before .before .before in
+    let i = k .before .before .before .before in
+    let s = i .before .before .before .before .before .before in
+    let a = s .args in
+    let n = outlines-length (a .v .now) (a .counts .now) in
+    rw (eq-eqb _ 0 (n ∙ i .if1 .taken)) (ap (λ (B : IndexBuffer). record { answer = None; lent = B }) (k .clear .ensures))
 
 found-requires : tie.Need-found-requires
 found-requires c κs = search needs
@@ -37,7 +48,13 @@ same-length-6 c = search needs
 
 returns-2 : tie.Need-returns-2
 unfolding nearestIn
-returns-2 c = (rw (ne-eqb _ 0 (c .before .before .before .before .before .before .before .before .before .before .if1 .left)) (ap At (c .before .before .before .before .before .before .found .ensures .0)), c .before .before .before .before .before .before .found .ensures .1)
+returns-2 c =
+    let k = c .before .before .before .before .before .before in
+    let i = k .before .before .before .before in
+    let s = i .before .before .before .before .before .before in
+    let a = s .args in
+    let n = outlines-length (a .v .now) (a .counts .now) in
+    rw (ne-eqb _ 0 (λ z. i .if1 .left (sym n ∙ z))) (ap (λ (o : Outcome Best IndexBuffer). inFields At o) (k .found .ensures))
 
 pub answered-spec : {M : Type 1} → statement M
 answered-spec =

@@ -1,7 +1,11 @@
 -- `nearest::found_in` meets its contract. Assumes nothing.
+use mathlib.Core.Path.{ap₂, _∙_}
 use native.Mathlib.Omega.{arith}
+use Rattle.index.specs.Buffer.{IndexBuffer, buffer}
+use Rattle.search.specs.declared.Best.{Best}
+use Rattle.set.proofs.SetLaws.{fit-within, doubles-outlines}
 use Rattle.set.proofs.AskLaws.{starts-put}
-use Rattle.nearest.proofs.FoundLaws.{indexed-of, cleared-of}
+use Rattle.nearest.proofs.FoundLaws.{searched-of, cleared-of}
 use borrow.Author.Needs.{needs}
 use Rattle.nearest.proofs.found_in.Statement.{statement}
 use Rattle.nearest.proofs.found_in.Tie as tie
@@ -32,19 +36,37 @@ grow-requires c κs = search needs
 
 search-requires : tie.Need-search-requires
 search-requires c κs =
-    let a = c .before .before .before .before .before .before .before .before .before .before .before .before .before .before .before .before .before .before .before .before .before .before .before .before .before .before .before .before .before .before .before .before .args in
-    let s = c .before .before .before .before .before .before .before .before .before .before .before .before .before .before .before .before .before .before .before .before .before .before .before .before .before .before .before .before .before .before .before .before .pre .0 .fit .size in
-    let l = c .before .before .before .before .before .before .before .before .before .before .before .before .before .before .before .before .before .before .before .before .before .before .before .before .before .before .before .before .before .before .before .before .pre .4 in
-    (record { fit = c .before .before .before .before .before .before .before .before .before .before .before .before .before .before .before .before .before .before .before .before .before .before .before .before .before .before .before .before .before .before .before .before .pre .0 .fit; held = c .before .before .before .before .before .before .before .before .before .before .before .before .before .before .before .before .before .before .before .before .before .before .before .before .all-held .ensures; starts = starts-put (a .counts .now) (a .starts .now) _ (omega arith) (c .before .before .before .before .before .before .before .before .before .before .before .before .before .before .before .before .before .before .put-starts .ensures); point = c .before .before .before .before .before .before .before .before .before .before .before .before .before .before .before .before .before .before .before .before .before .before .before .before .before .before .before .before .before .before .before .before .pre .1 }, indexed-of (a .v .now) (a .counts .now) (a .corners .now) (a .links .now) (a .items .now) (c .before .before .before .before .before .before .before .before .before .before .before .before .before .before .before .before .before .before .before .before .before .before .before .before .before .before .before .before .before .before .before .before .pre .0) (a .boxes .now) _ (c .before .before .before .before .before .before .before .before .before .before .before .before .before .before .before .before .before .before .before .before .before .before .before .before .before .before .before .before .before .before .before .before .pre .3) (c .before .before .before .before .before .before .before .before .before .before .before .before .before .before .before .before .before .before .before .before .before .before .put-boxes .ensures) _ _ _ _ (c .before .before .before .before .before .before .before .before .before .before .grow .ensures), c .before .before .before .before .before .before .before .before .before .before .before .before .before .before .before .before .before .before .before .before .before .before .before .before .before .before .before .before .before .before .before .before .pre .2)
+    let g = c .before .before .before .before .before .before .before .before .before .before in
+    let t = g .before .before .before .before .before .before .before .before in
+    let x = t .before .before .before .before in
+    let h = x .before .before in
+    let s = h .before .before .before .before .before .before .before .before in
+    let a = s .args in
+    let r = s .pre .0 in
+    let v = a .v .now in
+    let cs = a .counts .now in
+    let B = buffer (a .corners .now) (a .links .now) (a .items .now) in
+    let n = r .fit .size in
+    let l = s .pre .4 in
+    let starts = starts-put cs (a .starts .now) _ (omega arith) (t .put-starts .ensures) in
+    let held = doubles-outlines v cs (r .fit) (h .all-held .ensures) in
+    let X = searched-of v cs B r (a .boxes .now) _ (s .pre .3) (x .put-boxes .ensures) _ _ (g .grow .ensures) (s .pre .2) (h .all-held .ensures) in
+    (record { within = fit-within v cs (r .fit); starts = starts; fitting = r .fitting; held = held; point = s .pre .1 }, X, s .pre .2)
 
 clear-requires : tie.Need-clear-requires
 clear-requires c κs =
-    let C = c .before .before .before .before .before .before .before .before .before .before .before .before .before .before .before .before .before .before .before .before .before .before .before .before .before .before .before .before .before .before .before .before .before .before .before .before .pre .0 .corners in
-    let L = c .before .before .before .before .before .before .before .before .before .before .before .before .before .before .before .before .before .before .before .before .before .before .before .before .before .before .before .before .before .before .before .before .before .before .before .before .pre .0 .links in
-    let I = c .before .before .before .before .before .before .before .before .before .before .before .before .before .before .before .before .before .before .before .before .before .before .before .before .before .before .before .before .before .before .before .before .before .before .before .before .pre .0 .items in
-    let gc = c .before .before .before .before .before .before .before .before .before .before .before .before .before .corners .given in
-    let gl = c .before .before .before .before .before .before .before .before .before .before .before .links .given in
-    let gi = c .before .before .before .before .before .before .before .before .before .items .given in
+    let i = c .before .before .before .before .before .before .before .before .before in
+    let l = i .before .before in
+    let k = l .before .before in
+    let c0 = k .before .before .before .before .before .before .before .before .before .before .before .before .before .before in
+    let s = c0 .before .before .before .before .before .before .before .before .before in
+    let r = s .pre .0 in
+    let C = r .corners in
+    let L = r .links in
+    let I = r .items in
+    let gc = k .corners .given in
+    let gl = l .links .given in
+    let gi = i .items .given in
     (omega arith, omega arith, omega arith)
 
 same-length : tie.Need-same-length
@@ -64,8 +86,15 @@ same-length-5 c = search needs
 
 returns : tie.Need-returns
 returns c =
-    let a = c .before .before .before .before .before .before .before .before .before .before .before .before .before .before .before .before .before .before .before .before .before .before .before .before .before .before .before .before .before .before .before .before .before .before .before .before .before .before .before .before .before .before .before .args in
-    (c .before .before .before .before .before .before .before .before .before .before .search .ensures, cleared-of (a .v .now) (a .counts .now) (a .corners .now) (a .links .now) (a .items .now) (c .before .before .before .before .before .before .before .before .before .before .before .before .before .before .before .before .before .before .before .before .before .before .before .before .before .before .before .before .before .before .before .before .before .before .before .before .before .before .before .before .before .before .before .pre .0) (a .boxes .now) _ (c .before .before .before .before .before .before .before .before .before .before .before .before .before .before .before .before .before .before .before .before .before .before .before .before .before .before .before .before .before .before .before .before .before .before .before .before .before .before .before .before .before .before .before .pre .3) (c .before .before .before .before .before .before .before .before .before .before .before .before .before .before .before .before .before .before .before .before .before .before .before .before .before .before .before .before .before .before .before .before .before .put-boxes .ensures) _ _ _ _ (c .before .before .before .before .before .before .before .before .before .before .before .before .before .before .before .before .before .before .before .before .before .grow .ensures) _ _ _ (c .before .before .before .before .before .before .clear .ensures))
+    let z = c .before .before .before .before .before .before in
+    let b = z .before .before .before .before in
+    let g = b .before .before .before .before .before .before .before .before .before .before .before in
+    let x = g .before .before .before .before .before .before .before .before .before .before .before .before in
+    let s = x .before .before .before .before .before .before .before .before .before .before in
+    let a = s .args in
+    let B = buffer (a .corners .now) (a .links .now) (a .items .now) in
+    let e = cleared-of (a .v .now) (a .counts .now) B (s .pre .0) (a .boxes .now) _ (s .pre .3) (x .put-boxes .ensures) _ _ (g .grow .ensures) in
+    ap₂ (λ (r : Best) (B : IndexBuffer). record { answer = r; lent = B }) (b .search .ensures) (z .clear .ensures ∙ e)
 
 pub found-in-spec : {M : Type 1} → statement M
 found-in-spec =

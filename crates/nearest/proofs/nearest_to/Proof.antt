@@ -1,9 +1,9 @@
 -- `nearest::nearest_to` meets its contract. Assumes nothing.
 use mathlib.Core.Path.{sym, _∙_}
-use Rattle.accept.specs.Lists.{writtenFor}
-use Rattle.set.specs.Answers.{clearedCorners, clearedLinks, clearedItems}
+use Rattle.accept.specs.Refusals.{given}
+use Rattle.set.specs.Answers.{queryOutcome}
 use Rattle.set.proofs.AskLaws.{query-passed}
-use Rattle.nearest.specs.Answers.{nearestFor, nearestAnswer}
+use Rattle.nearest.specs.Answers.{nearestOutcome}
 use borrow.Author.Needs.{needs}
 use Rattle.nearest.proofs.nearest_to.Statement.{statement}
 use Rattle.nearest.proofs.nearest_to.Tie as tie
@@ -16,8 +16,10 @@ enum-told c = search needs
 
 answered-requires : tie.Need-answered-requires
 answered-requires c κs =
-    let q = query-passed _ _ _ _ _ _ (sym (c .before .before .before .before .before .query-tested .ensures) ∙ c .before .before .before .enum-told .given .1) in
-    (q .ready, q .point)
+    let e = c .before .before .before in
+    let q = e .before .before in
+    let r = query-passed _ _ _ _ (sym (q .query-tested .ensures) ∙ e .enum-told .given .1) in
+    (r .ready, r .point)
 
 enum-known-t : tie.Need-enum-known-t
 enum-known-t c = search needs
@@ -32,17 +34,28 @@ same-length-3 : tie.Need-same-length-3
 same-length-3 c = search needs
 
 returns : tie.Need-returns
-unfolding nearestAnswer nearestFor clearedCorners clearedLinks clearedItems writtenFor
+unfolding nearestOutcome queryOutcome given
 returns c =
-    let e = sym (c .before .before .before .before .before .before .before .before .before .before .before .before .query-tested .ensures) ∙ c .before .before .before .before .before .before .before .before .before .before .enum-told .given .1 in
-    let a = c .before .before .before .before .before .before .answered .ensures in
-    (rw e (a .0), rw e (a .1 .corners), rw e (a .1 .links), rw e (a .1 .items))
+    let a = c .before .before .before .before .before .before in
+    let e = a .before .before .before .before in
+    let q = e .before .before in
+    rw (sym (q .query-tested .ensures) ∙ e .enum-told .given .1) (a .answered .ensures)
+
+same-length-4 : tie.Need-same-length-4
+same-length-4 c = search needs
+
+same-length-5 : tie.Need-same-length-5
+same-length-5 c = search needs
+
+same-length-6 : tie.Need-same-length-6
+same-length-6 c = search needs
 
 returns-2 : tie.Need-returns-2
-unfolding nearestAnswer nearestFor clearedCorners clearedLinks clearedItems writtenFor
+unfolding nearestOutcome queryOutcome given
 returns-2 c =
-    let e = sym (c .before .before .before .query-tested .ensures) ∙ c .before .t .given .1 in
-    (rw e, rw e, rw e, rw e)
+    let t = c .before in
+    let q = t .before .before in
+    rw (sym (q .query-tested .ensures) ∙ t .t .given .1)
 
 pub nearest-to-spec : {M : Type 1} → statement M
 nearest-to-spec =
@@ -56,4 +69,7 @@ nearest-to-spec =
     same-length-2
     same-length-3
     returns
+    same-length-4
+    same-length-5
+    same-length-6
     returns-2)

@@ -1,10 +1,11 @@
 -- `records::listed` meets its contract. Assumes nothing.
-use Rattle.lists.proofs.RunLaws.{listed-more}
-use Rattle.records.specs.Records.{nodeIn}
+use Rattle.records.proofs.RecordLaws.{length-blank, front-more-run, front-run}
+use Rattle.records.specs.Records.{nodeIn, blankNodes}
 use Rattle.lists.specs.Lists.{run}
-use lib.ListN.{length, take, length-set}
+use lib.ListN.{length, drop, length-set}
+use mathlib.Core.List.{_++_}
 use Prim.Native.Nat.{_≤_, _-_}
-use mathlib.Core.Path.{_≡_, refl}
+use mathlib.Core.Path.{_≡_, ap, _∙_}
 use native.Mathlib.Nat.{le-antisymm}
 use native.Mathlib.Omega.{arith}
 use borrow.Author.Needs.{needs}
@@ -12,7 +13,7 @@ use Rattle.records.proofs.listed.Statement.{statement}
 use Rattle.records.proofs.listed.Tie as tie
 
 abbrev Inv-loop : tie.InvT-loop
-Inv-loop corners links n list₀ i₀ list i = (i ≤ n) × (length list ≡ 511) × (take i list ≡ run (nodeIn corners links) 0 i)
+Inv-loop corners links n list₀ i₀ list i = (i ≤ n) × (length list ≡ 511) × (list ≡ run (nodeIn corners links) 0 i ++ drop i blankNodes)
 
 abbrev μ-loop : tie.MeasureT-loop
 μ-loop corners links n list₀ i₀ list i = n - i
@@ -22,7 +23,7 @@ blank-requires c κs = search needs
 
 loop-holds : tie.Need-loop-holds Inv-loop μ-loop
 unfolding run
-loop-holds c = (search needs, c .blank .ensures, refl)
+loop-holds c = (search needs, ap length (c .blank .ensures) ∙ length-blank, c .blank .ensures)
 
 node-in-requires : tie.Need-node-in-requires Inv-loop μ-loop
 node-in-requires c κs = search needs
@@ -44,12 +45,12 @@ loop-again c =
     let v = c .before .before .loop .inv in
     let h = c .before .loop-test .taken in
     let m = c .before .before .before .before .before .before .pre in
-    (search needs, rw length-set (v .1), listed-more _ _ _ _ (omega arith) (c .node-in .ensures) (v .2))
+    (search needs, rw length-set (v .1), front-more-run _ blankNodes _ _ _ (omega (arith, length-blank)) (c .node-in .ensures) (v .2))
 
 returns : tie.Need-returns Inv-loop μ-loop
 returns c =
     let v = c .before .loop .inv in
-    (v .1, rw (le-antisymm (v .0) (c .loop-test .left)) at (v .2))
+    (rw (le-antisymm (v .0) (c .loop-test .left)) at (v .2)) ∙ front-run _ _ blankNodes
 
 pub listed-spec : {M : Type 1} → statement M
 listed-spec =

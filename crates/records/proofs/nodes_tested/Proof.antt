@@ -7,13 +7,16 @@ use Rattle.records.proofs.nodes_tested.Tie as tie
 boxes-tested-requires : tie.Need-boxes-tested-requires
 boxes-tested-requires c κs = search needs
 
-room-tested-requires : tie.Need-room-tested-requires
-room-tested-requires c κs = search needs
+refusing-requires : tie.Need-refusing-requires
+refusing-requires c κs = search needs
+
+refusing-requires-2 : tie.Need-refusing-requires-2
+refusing-requires-2 c κs = search needs
 
 returns : tie.Need-returns
 unfolding nodesTested
-returns c = rw (c .room-tested .ensures, c .before .boxes-tested .ensures)
+returns c = rw (c .refusing2 .ensures, c .before .refusing .ensures, c .before .before .boxes-tested .ensures)
 
 pub nodes-tested-spec : {M : Type 1} → statement M
 nodes-tested-spec =
-    tie.close (tie.spec boxes-tested-requires room-tested-requires returns)
+    tie.close (tie.spec boxes-tested-requires refusing-requires refusing-requires-2 returns)

@@ -48,7 +48,8 @@ use denote.Triple.Table.{entered}
 use denote.Triple.Walked.{says, needs, Stays, stay-slice, stay-dropped, walkOf, goes-slice, goes-dropped, Walks, ends-at, walked, walk-meets}
 use denote.Exit.{yes}
 use Rattle.nodes.specs.declared.Node.{Node}
-use Rattle.records.proofs.OfferLaws.{blank, FrontOf, front-none, front-more}
+use Rattle.records.specs.Records.{blankNode}
+use Rattle.records.proofs.OfferLaws.{FrontOf, front-none, front-more}
 use Rattle.records.proofs.LocalArray.{local-apart, local-room}
 use Rattle.nodes.proofs.Node as T
 use Rattle.nodes.proofs.Node.Laws as T′
@@ -241,7 +242,7 @@ module _ {M : Type 1} (𝓤 : URA M) (H : Heap 𝓤) (A : Atoms 𝓤) (W : Given
       move ! (21 ∷ 0 ∷ []) $ use2 W (‵ (row T.the-row fullShare list l₄ 0)) (local-apart 𝓤 H A W T.the-row 511 tt list vA l₄) $
       move ! (30 ∷ []) $ split ! $
       keep ! (4 ∷ 5 ∷ 0 ∷ 2 ∷ 21 ∷ 19 ∷ 17 ∷ 15 ∷ 13 ∷ 11 ∷ 9 ∷ 7 ∷ 28 ∷ 26 ∷ 24 ∷ 30 ∷ 31 ∷ 29 ∷ 27 ∷ 25 ∷ 23 ∷ 22 ∷ 20 ∷ 18 ∷ 16 ∷ 14 ∷ 12 ∷ 10 ∷ 8 ∷ []) $
-      by ! (loops 𝓣 gn (is .1 .0 .1) (fits .0) (fits .1) l₀ l₁ l₂ l₃ l₄ l₅ l₆ l₇ l₈ l₉ l₁₀ l₁₁ l₁₂ blank))))))))))))))
+      by ! (loops 𝓣 gn (is .1 .0 .1) (fits .0) (fits .1) l₀ l₁ l₂ l₃ l₄ l₅ l₆ l₇ l₈ l₉ l₁₀ l₁₁ l₁₂ blankNode))))))))))))))
 
 module _ {M : Type 1} (𝓤 : URA M) (H : Heap 𝓤) (A : Atoms 𝓤) (W : Given 𝓤 H A) (mem : Memory → SProp 𝓤) (run : Routine → Fun 𝓤) where
   offer-walks : (𝓣 : Tables 𝓤 H) → Walks 𝓤 H A f.ended stayed (WpFn 𝓤 H (𝓣 .C) (𝓣 .Λ) code.function) (f.clauses 𝓤 H A mem run)

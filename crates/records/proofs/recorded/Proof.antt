@@ -1,6 +1,7 @@
 -- `records::recorded` meets its contract. Assumes nothing.
-use Rattle.index.proofs.GrowLaws.{boxes-passed, accepted-of, index-nodes}
-use Rattle.records.proofs.RecordLaws.{short-none, recorded-stored}
+use Rattle.index.proofs.GrowLaws.{boxes-passed, accepted-of, index-nodes, grown-nodes}
+use Rattle.index.specs.Buffer.{buffer}
+use Rattle.records.proofs.RecordLaws.{short-none, recorded-grown}
 use native.Mathlib.Omega.{arith}
 use borrow.Author.Needs.{needs}
 use Rattle.records.proofs.recorded.Statement.{statement}
@@ -24,13 +25,13 @@ slice-aggregate-listed-2 c = search needs
 listed-requires : tie.Need-listed-requires
 listed-requires c κs =
     let s = boxes-passed _ (c .before .before .before .before .before .before .before .before .before .before .before .before .pre .0) .0 in
-    rw (c .before .before .before .before .before .before .grow .ensures .nodes) (index-nodes _ (omega arith))
+    rw (grown-nodes _ _ (c .before .before .before .before .before .before .grow .ensures)) (index-nodes _ (omega arith))
 
 same-length : tie.Need-same-length
 same-length c = search needs
 
 returns : tie.Need-returns
-returns c = recorded-stored _ _ _ _ _ _ _ _ _ (c .before .before .before .before .before .before .before .grow .ensures) (c .listed .ensures .1)
+returns c = recorded-grown _ _ (buffer _ _ _) (c .before .before .before .before .before .before .before .grow .ensures) (c .listed .ensures)
 
 pub recorded-spec : {M : Type 1} → statement M
 recorded-spec =

@@ -1,9 +1,6 @@
 -- `records::records` meets its contract. Assumes nothing.
-use Rattle.index.specs.Answers.{builtFor}
-use Rattle.records.specs.Records.{nodesAnswer}
 use Rattle.index.proofs.GrowLaws.{boxes-passed}
-use Rattle.records.proofs.RecordLaws.{counted-nodes, counted-items, nodes-passed, recorded-refused}
-use mathlib.Core.Path.{sym, _∙_}
+use Rattle.records.proofs.RecordLaws.{few-nodes, recorded-count, nodes-passed, records-passed, records-refused}
 use borrow.Author.Needs.{needs}
 use Rattle.records.proofs.records.Statement.{statement}
 use Rattle.records.proofs.records.Tie as tie
@@ -16,19 +13,19 @@ enum-told c = search needs
 
 recorded-requires : tie.Need-recorded-requires
 recorded-requires c κs =
-    let p = nodes-passed _ _ _ (sym (c .before .before .before .nodes-tested .ensures) ∙ c .before .enum-told .given .1) in
+    let p = nodes-passed _ _ _ (c .before .before .before .nodes-tested .ensures) (c .before .enum-told .given .1) in
     (p .0, p .2)
 
 cast-node-count : tie.Need-cast-node-count
 cast-node-count c =
-    let p = nodes-passed _ _ _ (sym (c .before .before .before .before .before .before .nodes-tested .ensures) ∙ c .before .before .before .before .enum-told .given .1) in
-    let k = counted-nodes _ (p .0) in
-    let e = c .before .before .recorded .ensures .count in
+    let p = nodes-passed _ _ _ (c .before .before .before .before .before .before .nodes-tested .ensures) (c .before .before .before .before .enum-told .given .1) in
+    let k = few-nodes _ (p .0) in
+    let e = recorded-count _ _ (c .before .before .recorded .ensures) in
     search needs
 
 cast-item-count : tie.Need-cast-item-count
 cast-item-count c =
-    let p = nodes-passed _ _ _ (sym (c .before .before .before .before .before .before .nodes-tested .ensures) ∙ c .before .before .before .before .enum-told .given .1) in
+    let p = nodes-passed _ _ _ (c .before .before .before .before .before .before .nodes-tested .ensures) (c .before .before .before .before .enum-told .given .1) in
     let k = boxes-passed _ (p .0) .0 in
     search needs
 
@@ -45,17 +42,10 @@ same-length : tie.Need-same-length
 same-length c = search needs
 
 returns : tie.Need-returns
-unfolding nodesAnswer
-returns c =
-    let e = sym (c .before .before .before .before .before .before .nodes-tested .ensures) ∙ c .before .before .before .before .enum-told .given .1 in
-    let r = c .before .before .recorded .ensures in
-    (rw e r, rw e (r .count), rw e (sym (counted-items _)))
+returns c = records-passed _ _ _ (c .before .before .before .before .before .before .nodes-tested .ensures) (c .before .before .before .before .enum-told .given .1) (c .before .before .recorded .ensures)
 
 returns-2 : tie.Need-returns-2
-unfolding nodesAnswer builtFor
-returns-2 c =
-    let e = sym (c .before .before .before .before .before .nodes-tested .ensures) ∙ c .before .before .before .t .given .1 in
-    (rw (c .number-of .ensures, e) (recorded-refused _ _ _ _), rw e, rw e)
+returns-2 c = rw (c .number-of .ensures, c .before .blank .ensures) (records-refused _ _ _ (c .before .before .before .before .before .nodes-tested .ensures) (c .before .before .before .t .given .1))
 
 pub records-spec : {M : Type 1} → statement M
 records-spec =

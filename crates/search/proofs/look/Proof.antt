@@ -3,6 +3,7 @@ use mathlib.Core.Path.{_≡_}
 use Prim.Native.Nat.{_+_, _-_, _≤_}
 use Rattle.lists.specs.Lists.{run, fold}
 use Rattle.nodes.specs.Layout.{itemAt}
+use Rattle.set.specs.Set.{outlinesOf}
 use Rattle.search.specs.Least.{magnitudeAt}
 use Rattle.search.specs.Walk.{improved, bestOf}
 use borrow.Author.Needs.{needs}
@@ -11,13 +12,15 @@ use Rattle.search.proofs.look.Statement.{statement}
 use Rattle.search.proofs.look.Tie as tie
 
 abbrev Inv-loop : tie.InvT-loop
-Inv-loop v counts starts items first count p best₀ i₀ best i = (i ≤ count) × (fold (λ b k. improved b k (magnitudeAt v counts p k)) best (run (itemAt items) (first + i) (count - i)) ≡ bestOf (magnitudeAt v counts p) best₀ (run (itemAt items) first count))
+Inv-loop v counts starts items first count p best₀ i₀ best i = (i ≤ count) × (fold (λ b k. improved b k (magnitudeAt (outlinesOf v counts) p k)) best (run (itemAt items) (first + i) (count - i)) ≡ bestOf (magnitudeAt (outlinesOf v counts) p) best₀ (run (itemAt items) first count))
 
 abbrev μ-loop : tie.MeasureT-loop
 μ-loop v counts starts items first count p best₀ i₀ best i = count - i
 
 loop-holds : tie.Need-loop-holds Inv-loop μ-loop
-loop-holds c = let a = c .before .before .before .before .args in (search needs, look-first (magnitudeAt (a .v .now) (a .counts .now) (a .p)) (a .items .now) (a .first) (a .count) (a .start))
+loop-holds c =
+    let a = c .before .before .before .before .args in
+    (search needs, look-first (magnitudeAt (outlinesOf (a .v .now) (a .counts .now)) (a .p)) (a .items .now) (a .first) (a .count) (a .start))
 
 cast-at : tie.Need-cast-at Inv-loop μ-loop
 cast-at c = search needs
@@ -32,7 +35,9 @@ magnitude-requires : tie.Need-magnitude-requires Inv-loop μ-loop
 magnitude-requires c κs =
     let s = c .before .before .before .before .before .before .before in
     let a = s .args in
-    (s .pre .0, look-item (magnitudeAt (a .v .now) (a .counts .now) (a .p)) (a .items .now) (a .first) (a .count) (c .before .before .loop .i) (c .before .loop-test .taken) _ (c .at .ensures) _ (s .pre .1))
+    let D = magnitudeAt (outlinesOf (a .v .now) (a .counts .now)) (a .p) in
+    let l = c .before .before .loop in
+    (s .pre .0, look-item D (a .items .now) (a .first) (a .count) (l .i) (c .before .loop-test .taken) _ (c .at .ensures) _ (s .pre .1))
 
 improve-requires : tie.Need-improve-requires Inv-loop μ-loop
 improve-requires c κs = search needs
@@ -47,13 +52,17 @@ loop-again : tie.Need-loop-again Inv-loop μ-loop
 loop-again c =
     let l = c .before .before .before .before .loop in
     let a = c .before .before .before .before .before .before .before .before .before .args in
-    (search needs, look-next (magnitudeAt (a .v .now) (a .counts .now) (a .p)) (a .items .now) (a .first) (a .count) (l .i) (l .best) _ (l .inv .1) (c .before .before .before .loop-test .taken) _ _ _ (c .before .before .at .ensures) (c .before .magnitude .ensures) (c .improve .ensures))
+    let D = magnitudeAt (outlinesOf (a .v .now) (a .counts .now)) (a .p) in
+    let t = c .before .before .before .loop-test .taken in
+    let at = c .before .before .at .ensures in
+    (search needs, look-next D (a .items .now) (a .first) (a .count) (l .i) (l .best) _ (l .inv .1) t _ _ _ at (c .before .magnitude .ensures) (c .improve .ensures))
 
 returns : tie.Need-returns Inv-loop μ-loop
 returns c =
     let l = c .before .loop in
     let a = c .before .before .before .before .before .before .args in
-    look-end (magnitudeAt (a .v .now) (a .counts .now) (a .p)) (a .items .now) (a .first) (a .count) (l .i) (l .best) _ (l .inv .1) (c .loop-test .left)
+    let D = magnitudeAt (outlinesOf (a .v .now) (a .counts .now)) (a .p) in
+    look-end D (a .items .now) (a .first) (a .count) (l .i) (l .best) _ (l .inv .1) (c .loop-test .left)
 
 pub look-spec : {M : Type 1} → statement M
 look-spec =

@@ -7,18 +7,24 @@ use lib.Ieee.{div, ofBits}
 use Rattle.boundary.proofs.KnownLaws.{owned-point}
 use Rattle.heap.specs.Heap.{entryAt, total}
 use Rattle.heap.proofs.HeapLaws.{heaped-none}
+use Rattle.index.specs.Buffer.{buffer}
+use Rattle.set.specs.Set.{outlinesOf}
+use Rattle.set.proofs.SetLaws.{outlines-length}
 use Rattle.search.specs.Least.{magnitudeAt}
 use Rattle.search.proofs.SearchLaws.{sizeOf, Searching, searching-few, popped-less, looked-within, searching-leaf, children-small, opened-less, searching-inner, upto-above, upto-none}
-use Rattle.search.proofs.SetSearch.{gap-number, numbers, set-search-first, set-search-end}
+use Rattle.search.proofs.SetSearch.{most, gap-number, numbers, set-search-first, set-search-end}
 use borrow.Author.Needs.{needs}
 use Rattle.search.proofs.search_in.Statement.{statement}
 use Rattle.search.proofs.search_in.Tie as tie
 
 abbrev Inv-loop : tie.InvT-loop
-Inv-loop v counts starts p corners links items nodes₀ gaps₀ best₀ n₀ nodes gaps best n = Searching corners links items 9 p (magnitudeAt v counts p) (length counts) (entryAt nodes gaps) n best × (length nodes ≡ 512) × (length gaps ≡ 512)
+Inv-loop v counts starts p corners links items nodes₀ gaps₀ best₀ n₀ nodes gaps best n =
+    Searching (buffer corners links items) most p (magnitudeAt (outlinesOf v counts) p) (length (outlinesOf v counts)) (entryAt nodes gaps) n best
+    × (length nodes ≡ 512) × (length gaps ≡ 512)
 
 abbrev μ-loop : tie.MeasureT-loop
-μ-loop v counts starts p corners links items nodes₀ gaps₀ best₀ n₀ nodes gaps best n = total (sizeOf corners links items 9 p (magnitudeAt v counts p) (length counts)) (entryAt nodes gaps) n
+μ-loop v counts starts p corners links items nodes₀ gaps₀ best₀ n₀ nodes gaps best n =
+    total (sizeOf (buffer corners links items) most p (magnitudeAt (outlinesOf v counts) p) (length (outlinesOf v counts))) (entryAt nodes gaps) n
 
 none-of : {n : ℕ} → n ≤ 0 → n ≡ 0
 none-of h = omega arith
@@ -30,19 +36,42 @@ push-requires : tie.Need-push-requires Inv-loop μ-loop
 push-requires c κs = ((search needs, search needs), (heaped-none _, rw (c .gap .ensures) (gap-number _ _)))
 
 cast-t23 : tie.Need-cast-t23 Inv-loop μ-loop
-cast-t23 c = let h = c .before .before .before .before .before .before .before .before .before .before .before .before .before .before .before .before .pre .0 .fit .size in search needs
+cast-t23 c =
+    let c0 = c .before .before .before .before .before .before .before .before .before .before .before .before .before .before in
+    let s = c0 .before .before in
+    let a = s .args in
+    let h = s .pre .0 .fitting .size in
+    let l = outlines-length (a .v .now) (a .counts .now) in
+    search needs
 
 loop-holds : tie.Need-loop-holds Inv-loop μ-loop
 unfolding div ofBits
 loop-holds c =
-    let a = c .before .before .before .before .before .before .before .before .before .before .before .before .before .before .before .before .args in
-    (set-search-first (a .v .now) (a .counts .now) (a .starts .now) (a .p) (c .before .before .before .before .before .before .before .before .before .before .before .before .before .before .before .before .pre .0) (owned-point ((c .before .before .before .before .before .before .before .before .before .before .before .before .before .before .before .before) .good .1 .1 .1 .0) (c .before .before .before .before .before .before .before .before .before .before .before .before .before .before .before .before .pre .0 .point)) (c .before .before .before .before .before .before .before .before .before .before .before .before .before .before .before .before .pre .2) (a .corners .now) (a .links .now) (a .items .now) (c .before .before .before .before .before .before .before .before .before .before .before .before .before .before .before .before .pre .1) _ _ (rw (c .before .before .before .before .before .gap .ensures) at (c .before .before .before .before .push .ensures)), search needs, search needs)
+    let u = c .before .before .before .before in
+    let g = u .before in
+    let s = g .before .before .before .before .before .before .before .before .before .before .before in
+    let a = s .args in
+    let os = outlinesOf (a .v .now) (a .counts .now) in
+    let B = buffer (a .corners .now) (a .links .now) (a .items .now) in
+    let D = magnitudeAt os (a .p) in
+    let n = length os in
+    let A = s .pre .0 in
+    let P = owned-point (s .good .1 .1 .1 .0) (A .point) in
+    let h = set-search-first os (A .fitting) (A .held) (a .p) P B (s .pre .1) _ _ (rw (g .gap .ensures) at (u .push .ensures)) in
+    (rw (← outlines-length (a .v .now) (a .counts .now)) h, search needs, search needs)
 
 pop-requires : tie.Need-pop-requires Inv-loop μ-loop
 pop-requires c κs =
-    let a = c .before .before .before .before .before .before .before .before .before .before .before .before .before .before .before .before .before .before .before .before .args in
-    let S = c .before .before .before .loop .inv .0 in
-    let h = searching-few (a .corners .now) (a .links .now) (a .items .now) 9 (a .p) (magnitudeAt (a .v .now) (a .counts .now) (a .p)) (length (a .counts .now)) S in
+    let l = c .before .before .before in
+    let c0 = l .before .before .before .before .before .before .before .before .before .before .before .before .before .before in
+    let s = c0 .before .before .before in
+    let a = s .args in
+    let os = outlinesOf (a .v .now) (a .counts .now) in
+    let B = buffer (a .corners .now) (a .links .now) (a .items .now) in
+    let D = magnitudeAt os (a .p) in
+    let n = length os in
+    let S = l .loop .inv .0 in
+    let h = searching-few B most (a .p) D n S in
     (search needs, (search needs, search needs), S .heaped)
 
 same-length : tie.Need-same-length Inv-loop μ-loop
@@ -53,9 +82,22 @@ same-length-2 c = search needs
 
 returns : tie.Need-returns Inv-loop μ-loop
 returns c =
-    let a = c .before .before .before .before .before .before .before .before .before .before .before .before .before .before .before .before .before .before .before .before .before .before .before .before .before .before .before .before .args in
-    let S = c .before .before .before .before .before .before .before .before .before .before .before .loop .inv .0 in
-    set-search-end (a .v .now) (a .counts .now) (a .starts .now) (a .p) (c .before .before .before .before .before .before .before .before .before .before .before .before .before .before .before .before .before .before .before .before .before .before .before .before .before .before .before .before .pre .0) (owned-point ((c .before .before .before .before .before .before .before .before .before .before .before .before .before .before .before .before .before .before .before .before .before .before .before .before .before .before .before .before) .good .1 .1 .1 .0) (c .before .before .before .before .before .before .before .before .before .before .before .before .before .before .before .before .before .before .before .before .before .before .before .before .before .before .before .before .pre .0 .point)) (c .before .before .before .before .before .before .before .before .before .before .before .before .before .before .before .before .before .before .before .before .before .before .before .before .before .before .before .before .pre .2) (a .corners .now) (a .links .now) (a .items .now) (c .before .before .before .before .before .before .before .before .before .before .before .before .before .before .before .before .before .before .before .before .before .before .before .before .before .before .before .before .pre .1) _ (S .among) (upto-above (a .corners .now) (a .links .now) (a .items .now) 9 (a .p) (magnitudeAt (a .v .now) (a .counts .now) (a .p)) (length (a .counts .now)) S (c .before .before .before .before .before .before .before .pop .ensures) (c .if1 .taken))
+    let x = c .before .before .before .before .before .before .before in
+    let l = x .before .before .before .before in
+    let c0 = l .before .before .before .before .before .before .before .before .before .before .before .before .before .before in
+    let s = c0 .before .before .before in
+    let a = s .args in
+    let os = outlinesOf (a .v .now) (a .counts .now) in
+    let B = buffer (a .corners .now) (a .links .now) (a .items .now) in
+    let D = magnitudeAt os (a .p) in
+    let n = length os in
+    let A = s .pre .0 in
+    let P = owned-point (s .good .1 .1 .1 .0) (A .point) in
+    let S = l .loop .inv .0 in
+    let k = outlines-length (a .v .now) (a .counts .now) in
+    let m = s .pre .2 in
+    set-search-end os (A .fitting) (A .held) (a .p) P B (s .pre .1) (omega arith) _ (S .among)
+    (upto-above B most (a .p) D n S (x .pop .ensures) (c .if1 .taken))
 
 sub-n : tie.Need-sub-n Inv-loop μ-loop
 sub-n c = search needs
@@ -77,61 +119,149 @@ at-requires-2 c κs = search needs
 
 look-requires : tie.Need-look-requires Inv-loop μ-loop
 look-requires c κs =
-    let a = c .before .before .before .before .before .before .before .before .before .before .before .before .before .before .before .before .before .before .before .before .before .before .before .before .before .before .before .before .before .before .before .before .args in
-    let S = c .before .before .before .before .before .before .before .before .before .before .before .before .before .before .before .loop .inv .0 in
-    (c .before .before .before .before .before .before .before .before .before .before .before .before .before .before .before .before .before .before .before .before .before .before .before .before .before .before .before .before .before .before .before .before .pre .0, rw (c .before .before .at .ensures, c .before .at2 .ensures) (looked-within (a .corners .now) (a .links .now) (a .items .now) 9 (a .p) (magnitudeAt (a .v .now) (a .counts .now) (a .p)) (length (a .counts .now)) S (c .before .before .before .before .before .before .before .before .before .before .before .pop .ensures) (numbers (a .v .now) (a .counts .now) (a .starts .now) (a .p) (c .before .before .before .before .before .before .before .before .before .before .before .before .before .before .before .before .before .before .before .before .before .before .before .before .before .before .before .before .before .before .before .before .pre .0) (owned-point ((c .before .before .before .before .before .before .before .before .before .before .before .before .before .before .before .before .before .before .before .before .before .before .before .before .before .before .before .before .before .before .before .before) .good .1 .1 .1 .0) (c .before .before .before .before .before .before .before .before .before .before .before .before .before .before .before .before .before .before .before .before .before .before .before .before .before .before .before .before .before .before .before .before .pre .0 .point)) (c .before .before .before .before .before .before .before .before .before .before .before .before .before .before .before .before .before .before .before .before .before .before .before .before .before .before .before .before .before .before .before .before .pre .2)) (rw (c .before .at2 .ensures) at (c .if2 .taken))))
+    let y = c .before in
+    let z = y .before in
+    let x = z .before .before .before .before .before .before .before .before .before in
+    let l = x .before .before .before .before in
+    let c0 = l .before .before .before .before .before .before .before .before .before .before .before .before .before .before in
+    let s = c0 .before .before .before in
+    let a = s .args in
+    let os = outlinesOf (a .v .now) (a .counts .now) in
+    let B = buffer (a .corners .now) (a .links .now) (a .items .now) in
+    let D = magnitudeAt os (a .p) in
+    let n = length os in
+    let A = s .pre .0 in
+    let P = owned-point (s .good .1 .1 .1 .0) (A .point) in
+    let S = l .loop .inv .0 in
+    let H = x .pop .ensures in (
+      A,
+      rw (z .at .ensures, y .at2 .ensures)
+          (looked-within B most (a .p) D n S H (numbers os (A .fitting) (A .held) (a .p) P) (rw (y .at2 .ensures) at (c .if2 .taken))),
+    )
 
 loop-less : tie.Need-loop-less Inv-loop μ-loop
 loop-less c =
-    let a = c .before .before .before .before .before .before .before .before .before .before .before .before .before .before .before .before .before .before .before .before .before .before .before .before .before .before .before .before .before .before .before .before .before .args in
-    popped-less (a .corners .now) (a .links .now) (a .items .now) 9 (a .p) (magnitudeAt (a .v .now) (a .counts .now) (a .p)) (length (a .counts .now)) (c .before .before .before .before .before .before .before .before .before .before .before .before .before .before .before .before .loop .inv .0) (c .before .before .before .before .before .before .before .before .before .before .before .before .pop .ensures)
+    let x = c .before .before .before .before .before .before .before .before .before .before .before .before in
+    let l = x .before .before .before .before in
+    let c0 = l .before .before .before .before .before .before .before .before .before .before .before .before .before .before in
+    let s = c0 .before .before .before in
+    let a = s .args in
+    let os = outlinesOf (a .v .now) (a .counts .now) in
+    let B = buffer (a .corners .now) (a .links .now) (a .items .now) in
+    let D = magnitudeAt os (a .p) in
+    let n = length os in
+    popped-less B most (a .p) D n (l .loop .inv .0) (x .pop .ensures)
 
 loop-again : tie.Need-loop-again Inv-loop μ-loop
 loop-again c =
-    let a = c .before .before .before .before .before .before .before .before .before .before .before .before .before .before .before .before .before .before .before .before .before .before .before .before .before .before .before .before .before .before .before .before .before .args in
-    let S = c .before .before .before .before .before .before .before .before .before .before .before .before .before .before .before .before .loop .inv .0 in
-    (searching-leaf (a .corners .now) (a .links .now) (a .items .now) 9 (a .p) (magnitudeAt (a .v .now) (a .counts .now) (a .p)) (length (a .counts .now)) S (c .before .before .before .before .before .before .before .before .before .before .before .before .pop .ensures) (numbers (a .v .now) (a .counts .now) (a .starts .now) (a .p) (c .before .before .before .before .before .before .before .before .before .before .before .before .before .before .before .before .before .before .before .before .before .before .before .before .before .before .before .before .before .before .before .before .before .pre .0) (owned-point ((c .before .before .before .before .before .before .before .before .before .before .before .before .before .before .before .before .before .before .before .before .before .before .before .before .before .before .before .before .before .before .before .before .before) .good .1 .1 .1 .0) (c .before .before .before .before .before .before .before .before .before .before .before .before .before .before .before .before .before .before .before .before .before .before .before .before .before .before .before .before .before .before .before .before .before .pre .0 .point)) (c .before .before .before .before .before .before .before .before .before .before .before .before .before .before .before .before .before .before .before .before .before .before .before .before .before .before .before .before .before .before .before .before .before .pre .2)) (rw (c .before .before .at2 .ensures) at (c .before .if2 .taken)) (rw (c .before .before .before .at .ensures, c .before .before .at2 .ensures) at (c .look .ensures)), search needs, search needs)
+    let i = c .before in
+    let y = i .before in
+    let z = y .before in
+    let x = z .before .before .before .before .before .before .before .before .before in
+    let l = x .before .before .before .before in
+    let c0 = l .before .before .before .before .before .before .before .before .before .before .before .before .before .before in
+    let s = c0 .before .before .before in
+    let a = s .args in
+    let os = outlinesOf (a .v .now) (a .counts .now) in
+    let B = buffer (a .corners .now) (a .links .now) (a .items .now) in
+    let D = magnitudeAt os (a .p) in
+    let n = length os in
+    let A = s .pre .0 in
+    let P = owned-point (s .good .1 .1 .1 .0) (A .point) in
+    let S = l .loop .inv .0 in
+    let H = x .pop .ensures in
+    let f = rw (y .at2 .ensures) at (i .if2 .taken) in
+    let r = rw (z .at .ensures, y .at2 .ensures) at (c .look .ensures) in
+    (searching-leaf B most (a .p) D n S H (numbers os (A .fitting) (A .held) (a .p) P) f r, search needs, search needs)
 
 wait-both-requires : tie.Need-wait-both-requires Inv-loop μ-loop
 wait-both-requires c κs =
-    let a = c .before .before .before .before .before .before .before .before .before .before .before .before .before .before .before .before .before .before .before .before .before .before .before .before .before .before .before .before .before .before .before .before .before .before .args in
-    let S = c .before .before .before .before .before .before .before .before .before .before .before .before .before .before .before .before .before .loop .inv .0 in
-    let H = c .before .before .before .before .before .before .before .before .before .before .before .before .before .pop .ensures in
-    let e = rw (c .before .before .before .at2 .ensures) at (none-of (c .before .before .if2 .left)) in
-    let m = children-small (a .corners .now) (a .links .now) (a .items .now) 9 (a .p) (magnitudeAt (a .v .now) (a .counts .now) (a .p)) (length (a .counts .now)) S H e in
-    let f = c .before .before .before .before .at .ensures in
-    let h = searching-few (a .corners .now) (a .links .now) (a .items .now) 9 (a .p) (magnitudeAt (a .v .now) (a .counts .now) (a .p)) (length (a .counts .now)) S in
-    let ln = c .before .before .before .before .before .before .before .before .before .before .before .before .before .before .before .before .before .loop .inv .1 in
-    let lg = c .before .before .before .before .before .before .before .before .before .before .before .before .before .before .before .before .before .loop .inv .2 in
-    let pn = c .before .before .before .before .before .before .before .before .before .before .before .before .nodes2 .given in
-    let pg = c .before .before .before .before .before .before .before .before .before .before .gaps2 .given in
+    let i = c .before .before in
+    let y = i .before in
+    let z = y .before in
+    let g = z .before .before .before .before .before .before in
+    let k = g .before .before in
+    let x = k .before in
+    let l = x .before .before .before .before in
+    let c0 = l .before .before .before .before .before .before .before .before .before .before .before .before .before .before in
+    let s = c0 .before .before .before in
+    let a = s .args in
+    let os = outlinesOf (a .v .now) (a .counts .now) in
+    let B = buffer (a .corners .now) (a .links .now) (a .items .now) in
+    let D = magnitudeAt os (a .p) in
+    let n = length os in
+    let S = l .loop .inv .0 in
+    let H = x .pop .ensures in
+    let e = rw (y .at2 .ensures) at (none-of (i .if2 .left)) in
+    let m = children-small B most (a .p) D n S H e in
+    let f = z .at .ensures in
+    let h = searching-few B most (a .p) D n S in
+    let ln = l .loop .inv .1 in
+    let lg = l .loop .inv .2 in
+    let pn = k .nodes2 .given in
+    let pg = g .gaps2 .given in
     ((omega arith, omega arith), omega arith, (H .heaped, (gap-number _ _, gap-number _ _)))
 
 add-n : tie.Need-add-n Inv-loop μ-loop
 add-n c =
-    let a = c .before .before .before .before .before .before .before .before .before .before .before .before .before .before .before .before .before .before .before .before .before .before .before .before .before .before .before .before .before .before .before .before .before .before .before .before .before .before .before .args in
-    let h = searching-few (a .corners .now) (a .links .now) (a .items .now) 9 (a .p) (magnitudeAt (a .v .now) (a .counts .now) (a .p)) (length (a .counts .now)) (c .before .before .before .before .before .before .before .before .before .before .before .before .before .before .before .before .before .before .before .before .before .before .loop .inv .0) in
+    let c0 = c .before .before .before .before .before .before .before .before .before .before .before .before .before .before in
+    let l = c0 .before .before .before .before .before .before .before .before in
+    let c1 = l .before .before .before .before .before .before .before .before .before .before .before .before .before .before in
+    let s = c1 .before .before .before in
+    let a = s .args in
+    let os = outlinesOf (a .v .now) (a .counts .now) in
+    let B = buffer (a .corners .now) (a .links .now) (a .items .now) in
+    let D = magnitudeAt os (a .p) in
+    let n = length os in
+    let h = searching-few B most (a .p) D n (l .loop .inv .0) in
     record { fits = omega arith }
 
 loop-less-2 : tie.Need-loop-less-2 Inv-loop μ-loop
 loop-less-2 c =
-    let a = c .before .before .before .before .before .before .before .before .before .before .before .before .before .before .before .before .before .before .before .before .before .before .before .before .before .before .before .before .before .before .before .before .before .before .before .before .before .before .before .args in
-    let S = c .before .before .before .before .before .before .before .before .before .before .before .before .before .before .before .before .before .before .before .before .before .before .loop .inv .0 in
-    let e = rw (c .before .before .before .before .before .before .before .before .at2 .ensures) at (none-of (c .before .before .before .before .before .before .before .if2 .left)) in
-    opened-less (a .corners .now) (a .links .now) (a .items .now) 9 (a .p) (magnitudeAt (a .v .now) (a .counts .now) (a .p)) (length (a .counts .now)) S (c .before .before .before .before .before .before .before .before .before .before .before .before .before .before .before .before .before .before .pop .ensures) e (rw (c .before .before .before .before .before .before .before .before .before .at .ensures) at (c .before .before .before .before .wait-both .ensures))
+    let w = c .before .before .before .before in
+    let i = w .before .before .before in
+    let y = i .before in
+    let z = y .before in
+    let x = z .before .before .before .before .before .before .before .before .before in
+    let l = x .before .before .before .before in
+    let c0 = l .before .before .before .before .before .before .before .before .before .before .before .before .before .before in
+    let s = c0 .before .before .before in
+    let a = s .args in
+    let os = outlinesOf (a .v .now) (a .counts .now) in
+    let B = buffer (a .corners .now) (a .links .now) (a .items .now) in
+    let D = magnitudeAt os (a .p) in
+    let n = length os in
+    let e = rw (y .at2 .ensures) at (none-of (i .if2 .left)) in
+    opened-less B most (a .p) D n (l .loop .inv .0) (x .pop .ensures) e (rw (z .at .ensures) at (w .wait-both .ensures))
 
 loop-again-2 : tie.Need-loop-again-2 Inv-loop μ-loop
 loop-again-2 c =
-    let a = c .before .before .before .before .before .before .before .before .before .before .before .before .before .before .before .before .before .before .before .before .before .before .before .before .before .before .before .before .before .before .before .before .before .before .before .before .before .before .before .args in
-    let S = c .before .before .before .before .before .before .before .before .before .before .before .before .before .before .before .before .before .before .before .before .before .before .loop .inv .0 in
-    let ln = c .before .before .before .before .before .before .before .before .before .before .before .before .before .before .before .before .before .before .before .before .before .before .loop .inv .1 in
-    let lg = c .before .before .before .before .before .before .before .before .before .before .before .before .before .before .before .before .before .before .before .before .before .before .loop .inv .2 in
-    let pn = c .before .before .before .before .before .before .before .before .before .before .before .before .before .before .before .before .before .nodes2 .given in
-    let pg = c .before .before .before .before .before .before .before .before .before .before .before .before .before .before .before .gaps2 .given in
-    let qn = c .before .before .before .nodes3 .given in
-    let qg = c .before .gaps3 .given in
-    let e = rw (c .before .before .before .before .before .before .before .before .at2 .ensures) at (none-of (c .before .before .before .before .before .before .before .if2 .left)) in
-    (searching-inner (a .corners .now) (a .links .now) (a .items .now) 9 (a .p) (magnitudeAt (a .v .now) (a .counts .now) (a .p)) (length (a .counts .now)) S (c .before .before .before .before .before .before .before .before .before .before .before .before .before .before .before .before .before .before .pop .ensures) e (rw (c .before .before .before .before .before .before .before .before .before .at .ensures) at (c .before .before .before .before .wait-both .ensures)), omega arith, omega arith)
+    let h = c .before in
+    let j = h .before .before in
+    let w = j .before in
+    let i = w .before .before .before in
+    let y = i .before in
+    let z = y .before in
+    let g = z .before .before .before .before .before .before in
+    let k = g .before .before in
+    let x = k .before in
+    let l = x .before .before .before .before in
+    let c0 = l .before .before .before .before .before .before .before .before .before .before .before .before .before .before in
+    let s = c0 .before .before .before in
+    let a = s .args in
+    let os = outlinesOf (a .v .now) (a .counts .now) in
+    let B = buffer (a .corners .now) (a .links .now) (a .items .now) in
+    let D = magnitudeAt os (a .p) in
+    let n = length os in
+    let ln = l .loop .inv .1 in
+    let lg = l .loop .inv .2 in
+    let pn = k .nodes2 .given in
+    let pg = g .gaps2 .given in
+    let qn = j .nodes3 .given in
+    let qg = h .gaps3 .given in
+    let e = rw (y .at2 .ensures) at (none-of (i .if2 .left)) in
+    let o = rw (z .at .ensures) at (w .wait-both .ensures) in
+    (searching-inner B most (a .p) D n (l .loop .inv .0) (x .pop .ensures) e o, omega arith, omega arith)
 
 same-length-3 : tie.Need-same-length-3 Inv-loop μ-loop
 same-length-3 c = search needs
@@ -141,9 +271,21 @@ same-length-4 c = search needs
 
 returns-2 : tie.Need-returns-2 Inv-loop μ-loop
 returns-2 c =
-    let a = c .before .before .before .before .before .before .before .before .before .before .before .before .before .before .before .before .before .before .args in
-    let S = c .before .loop .inv .0 in
-    set-search-end (a .v .now) (a .counts .now) (a .starts .now) (a .p) (c .before .before .before .before .before .before .before .before .before .before .before .before .before .before .before .before .before .before .pre .0) (owned-point ((c .before .before .before .before .before .before .before .before .before .before .before .before .before .before .before .before .before .before) .good .1 .1 .1 .0) (c .before .before .before .before .before .before .before .before .before .before .before .before .before .before .before .before .before .before .pre .0 .point)) (c .before .before .before .before .before .before .before .before .before .before .before .before .before .before .before .before .before .before .pre .2) (a .corners .now) (a .links .now) (a .items .now) (c .before .before .before .before .before .before .before .before .before .before .before .before .before .before .before .before .before .before .pre .1) _ (S .among) (upto-none (a .corners .now) (a .links .now) (a .items .now) 9 (a .p) (magnitudeAt (a .v .now) (a .counts .now) (a .p)) (length (a .counts .now)) S (c .loop-test .left))
+    let l = c .before in
+    let c0 = l .before .before .before .before .before .before .before .before .before .before .before .before .before .before in
+    let s = c0 .before .before .before in
+    let a = s .args in
+    let os = outlinesOf (a .v .now) (a .counts .now) in
+    let B = buffer (a .corners .now) (a .links .now) (a .items .now) in
+    let D = magnitudeAt os (a .p) in
+    let n = length os in
+    let A = s .pre .0 in
+    let P = owned-point (s .good .1 .1 .1 .0) (A .point) in
+    let S = l .loop .inv .0 in
+    let k = outlines-length (a .v .now) (a .counts .now) in
+    let m = s .pre .2 in
+    set-search-end os (A .fitting) (A .held) (a .p) P B (s .pre .1) (omega arith) _ (S .among)
+    (upto-none B most (a .p) D n S (c .loop-test .left))
 
 pub search-in-spec : {M : Type 1} → statement M
 search-in-spec =

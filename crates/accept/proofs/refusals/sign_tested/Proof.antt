@@ -2,7 +2,6 @@
 use mathlib.Core.Path.{sym, _∙_}
 use borrow.Author.Needs.{needs}
 use lib.Ieee.{ofBits}
-use Rattle.accept.specs.Refusals.{signTested}
 use Rattle.accept.proofs.VerdictLaws.{sign-negative, sign-kept, sign-turned}
 use Rattle.accept.proofs.refusals.sign_tested.Statement.{statement}
 use Rattle.accept.proofs.refusals.sign_tested.Tie as tie
@@ -14,15 +13,14 @@ enum-known-t-2 : tie.Need-enum-known-t-2
 enum-known-t-2 c = search needs
 
 returns : tie.Need-returns
-unfolding signTested ofBits
+unfolding ofBits
 returns c = λ v s e. sign-negative v s _ (sym e ∙ c .before .before .t .given .1) (c .if1 .taken)
 
 returns-2 : tie.Need-returns-2
-unfolding signTested ofBits
+unfolding ofBits
 returns-2 c = λ v s e. sign-kept v s _ (sym e ∙ c .before .before .t .given .1) (c .if1 .left)
 
 returns-3 : tie.Need-returns-3
-unfolding signTested
 returns-3 c = λ v s e. sign-turned v s _ (sym e ∙ c .before .t2 .given .1)
 
 pub sign-tested-spec : {M : Type 1} → statement M

@@ -78,7 +78,7 @@ build-requires c κs =
     let A = P .0 in
     let s = A .size in
     let i = A .items in
-    let w = P .4 in
+    let w = P .1 .work in
     let f = length-front (c .before .before .before .before .before .before .before .before .before .before .before .before .before .before .before .before .before .before .before .before .before .before .before .before .before .before .before .before .before .before .before .before .args .items .now) (c .before .before .before .before .before .before .before .before .before .before .before .before .count-up .last .0) (boxCount (c .before .before .before .before .before .before .before .before .before .before .before .before .before .before .before .before .before .before .before .before .before .before .before .before .before .before .before .before .before .before .before .before .args .boxes .now)) (c .before .before .before .before .before .before .before .before .before .before .before .before .count-up .kept .0) in
     let l = length-take-le (boxCount (c .before .before .before .before .before .before .before .before .before .before .before .before .before .before .before .before .before .before .before .before .before .before .before .before .before .before .before .before .before .before .before .before .args .boxes .now)) (c .before .before .before .before .before .before .before .before .before .before .before .before .count-up .last .0 ++ drop (boxCount (c .before .before .before .before .before .before .before .before .before .before .before .before .before .before .before .before .before .before .before .before .before .before .before .before .before .before .before .before .before .before .before .before .args .boxes .now)) (c .before .before .before .before .before .before .before .before .before .before .before .before .before .before .before .before .before .before .before .before .before .before .before .before .before .before .before .before .before .before .before .before .args .items .now)) (omega arith) in
     (numbers-ascend (c .before .before .before .before .before .before .before .before .before .before .before .before .before .before .before .before .before .before .before .before .before .before .before .before .before .before .before .before .before .before .before .before .args .items .now) (c .before .before .before .before .before .before .before .before .before .before .before .before .count-up .last .0) (boxCount (c .before .before .before .before .before .before .before .before .before .before .before .before .before .before .before .before .before .before .before .before .before .before .before .before .before .before .before .before .before .before .before .before .args .boxes .now)) (omega arith) (c .before .before .before .before .before .before .before .before .before .before .before .before .count-up .ensures), record { room = omega arith; items = omega arith; own = omega arith; free = omega arith })
@@ -111,9 +111,9 @@ returns c =
     let A = P .0 in
     let s = A .size in
     let z = A .whole in
-    let lw = P .1 in
-    let lx = P .2 in
-    let ly = P .3 in
+    let lw = P .1 .wide in
+    let lx = P .1 .xs in
+    let ly = P .1 .ys in
     let w = c .before .before .before .before .before .before .before .before .before .before .before .before .before .before .before .before .before .before .before .before .before .before .before .before .before .before .before .before .before .widen .ensures in
     grown-all (a .boxes .now) (A .whole) (a .wide .now) (c .before .before .before .before .before .before .before .before .before .before .before .before .before .before .before .before .before .before .before .before .before .before .before .before .before .before .before .before .before .widen .last .1 .0) (a .xs .now) (c .before .before .before .before .before .before .before .before .before .before .before .before .before .before .before .before .before .before .before .before .before .before .before .before .before .before .before .before .before .widen .last .1 .1 .0) (a .ys .now) (c .before .before .before .before .before .before .before .before .before .before .before .before .before .before .before .before .before .before .before .before .before .before .before .before .before .before .before .before .before .widen .last .1 .1 .1 .0)
     (w .0) (w .1) (w .2) (omega arith) (omega arith) (omega arith) (a .corners .now) _ (a .links .now) _ (a .items .now) (c .before .before .before .before .before .before .before .before .before .before .before .before .before .before .before .before .before .before .before .before .before .count-up .last .0) (c .before .before .before .before .before .before .before .before .build .last .1 .1 .1 .0) _

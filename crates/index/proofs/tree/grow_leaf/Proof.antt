@@ -1,6 +1,6 @@
 -- `index::tree::grow_leaf` meets its contract. Assumes nothing.
 use Rattle.entries.specs.Entries.{boxCount}
-use Rattle.index.proofs.GrowLaws.{leaf-stored}
+use Rattle.index.proofs.GrowLaws.{leaf-grown}
 use lib.Seq.{length-take-le}
 use mathlib.Core.Path.{sym}
 use native.Mathlib.Omega.{arith}
@@ -51,7 +51,7 @@ returns : tie.Need-returns
 returns c =
     let P = c .before .before .before .before .before .before .before .before .before .before .before .before .before .before .before .before .before .pre in
     let A = P .0 in
-    leaf-stored _ _ _ _ _ _ _ (P .1) (A .corners) (A .links) (A .items) (rw (c .before .before .before .before .before .before .before .before .before .before .put-box .ensures, c .before .before .before .before .before .before .before .before .before .before .before .hull-wide .ensures)) (c .before .before .before .before .before .before .put-links .ensures) (c .before .before .count-up .ensures)
+    leaf-grown _ _ _ _ _ _ _ (P .1) (A .corners) (A .links) (A .items) (rw (c .before .before .before .before .before .before .before .before .before .before .put-box .ensures, c .before .before .before .before .before .before .before .before .before .before .before .hull-wide .ensures)) (c .before .before .before .before .before .before .put-links .ensures) (c .before .before .count-up .ensures)
 
 pub grow-leaf-spec : {M : Type 1} → statement M
 grow-leaf-spec =

@@ -4,28 +4,39 @@ use Rattle.set.specs.Tests.{setQueryTested}
 use Rattle.set.proofs.refusals.query_tested.Statement.{statement}
 use Rattle.set.proofs.refusals.query_tested.Tie as tie
 
+in-field-requires : tie.Need-in-field-requires
+in-field-requires c κs = search needs
+
+in-field-requires-2 : tie.Need-in-field-requires-2
+in-field-requires-2 c κs = search needs
+
 set-tested-requires : tie.Need-set-tested-requires
 set-tested-requires c κs = search needs
 
-point-tested-requires : tie.Need-point-tested-requires
-point-tested-requires c κs = search needs
+refusing-requires : tie.Need-refusing-requires
+refusing-requires c κs = search needs
 
 short-index-requires : tie.Need-short-index-requires
 short-index-requires c κs = search needs
 
-room-tested-requires : tie.Need-room-tested-requires
-room-tested-requires c κs = search needs
+refusing-requires-2 : tie.Need-refusing-requires-2
+refusing-requires-2 c κs = search needs
 
 returns : tie.Need-returns
 unfolding setQueryTested
-returns c = rw (c .room-tested .ensures, c .before .short-index .ensures, c .before .before .point-tested .ensures, c .before .before .before .set-tested .ensures)
+returns c =
+    let t = c .before .before in
+    let s = t .before in
+    rw (c .refusing2 .ensures, c .before .short-index .ensures, t .refusing .ensures, s .set-tested .ensures, s .before .in-field2 .ensures, s .before .before .in-field .ensures)
 
 pub query-tested-spec : {M : Type 1} → statement M
 query-tested-spec =
     tie.close
     (tie.spec
+    in-field-requires
+    in-field-requires-2
     set-tested-requires
-    point-tested-requires
+    refusing-requires
     short-index-requires
-    room-tested-requires
+    refusing-requires-2
     returns)

@@ -1,37 +1,50 @@
 -- `set::refusals::set_tested` meets its contract. Assumes nothing.
-use mathlib.Core.Path.{sym, _∙_}
 use borrow.Author.Needs.{needs}
+use mathlib.Core.Path.{sym, _∙_}
 use denote.Ref.{now}
-use borrow.Author.Tests.{eq-eqb, ne-eqb}
-use Rattle.set.specs.Tests.{setTested}
-use Rattle.set.proofs.SetLaws.{adds-within}
+use Rattle.accept.specs.Refusals.{_refusing_when_}
+use Rattle.set.specs.Tests.{outlinesTested, setTested}
+use Rattle.set.proofs.OnePassLaws.{least-tests}
+use Rattle.set.proofs.SetLaws.{lists-fit, fit-within}
 use Rattle.set.proofs.refusals.set_tested.Statement.{statement}
 use Rattle.set.proofs.refusals.set_tested.Tie as tie
 
+lists-tested-requires : tie.Need-lists-tested-requires
+lists-tested-requires c κs = search needs
+
+enum-told : tie.Need-enum-told
+enum-told c = search needs
+
+least-failed-requires : tie.Need-least-failed-requires
+least-failed-requires c κs =
+    let d = c .before .before in
+    let a = d .before .before .before .args in
+    fit-within (now (a .v)) (now (a .counts)) (lists-fit (now (a .v)) (now (a .counts)) (sym (d .lists-tested .ensures) ∙ c .enum-told .given .1))
+
+test-at-requires : tie.Need-test-at-requires
+test-at-requires c κs = search needs
+
+enum-known-t : tie.Need-enum-known-t
+enum-known-t c = search needs
+
 returns : tie.Need-returns
 unfolding setTested
-returns c = rw (eq-eqb _ _ (c .if1 .taken))
-
-adds-up-requires : tie.Need-adds-up-requires
-adds-up-requires c κs = search needs
-
-sizes-tested-requires : tie.Need-sizes-tested-requires
-sizes-tested-requires c κs =
-    let a = c .before .before .before .before .before .args in
-    adds-within (now (a .v)) (now (a .counts)) (sym (c .before .adds-up .ensures) ∙ c .if2 .taken)
+returns c =
+    let d = c .before .before in
+    rw (← d .before .before .lists-tested .ensures, d .enum-told .given .1, c .test-at .ensures, c .before .least-failed .ensures) (least-tests _)
 
 returns-2 : tie.Need-returns-2
-unfolding setTested
-returns-2 c =
-    let d = c .before .before in
-    rw (ne-eqb _ _ (d .before .if1 .left), ← d .adds-up .ensures, c .before .if2 .taken, c .sizes-tested .ensures)
-
-returns-3 : tie.Need-returns-3
-unfolding setTested
-returns-3 c =
-    let d = c .before in
-    rw (ne-eqb _ _ (d .before .if1 .left), ← d .adds-up .ensures, c .if2 .left)
+unfolding setTested outlinesTested _refusing_when_
+returns-2 c = rw (← c .before .before .before .lists-tested .ensures, c .before .t .given .1)
 
 pub set-tested-spec : {M : Type 1} → statement M
 set-tested-spec =
-    tie.close (tie.spec returns adds-up-requires sizes-tested-requires returns-2 returns-3)
+    tie.close
+    (tie.spec
+    lists-tested-requires
+    enum-told
+    least-failed-requires
+    test-at-requires
+    enum-known-t
+    returns
+    returns-2)

@@ -43,10 +43,9 @@ use denote.Triple.Walked.{says, Stays, stay-dropped, gave-slice, gave-ref, walkO
 use denote.Exit.{yes}
 use Rattle.nodes.specs.declared.Node.{Node}
 use Rattle.records.specs.declared.Recording.{Recording}
-use Rattle.splits.specs.Tree.{indexOf}
-use Rattle.index.specs.Answers.{nodesIn, itemsIn}
-use Rattle.records.specs.Records.{nodesTested, nodesAnswer, Recorded}
-use Rattle.records.proofs.RecordLaws.{recorded-fits, recorded-written}
+use Rattle.accept.specs.Answers.{Outcome}
+use Rattle.records.specs.Records.{RecordsLent, recordsOutcome}
+use Rattle.records.proofs.RecordLaws.{records-fit, records-written}
 use Rattle.records.proofs.RecordingIs.{listVal, list-is, recording-is, number-small, count-small}
 use Rattle.nodes.proofs.Node as T
 use Rattle.nodes.proofs.Node.Laws as T′
@@ -147,8 +146,7 @@ module _ {M : Type 1} (𝓤 : URA M) (H : Heap 𝓤) (A : Atoms 𝓤) (W : Given
       owned ! usize (Is usize) (uint-makes 𝓤 H A W w64) m _ (refl, small) $ move ! (0 ∷ 3 ∷ []) $ fjoin ! $ move ! (2 ∷ 0 ∷ []) $ fjoin ! $ move ! (1 ∷ 0 ∷ []) $ join ! $ frame ! $ done !
 
   abbrev Told : Recording → List ℕ → ℕ → ℕ → Type 0
-  Told r I c d = Recorded (indexOf (bs .now)) (nodesTested (bs .now) m (length (is .now))) (is .now) r I
-      × (c ≡ nodesIn (nodesAnswer (bs .now) m (length (is .now)))) × (d ≡ itemsIn (nodesAnswer (bs .now) m (length (is .now))))
+  Told r I c d = _≡_ {A = Outcome Recording RecordsLent} (record { answer = r; lent = record { nodeCount = c; itemCount = d; items = I } }) (recordsOutcome (bs .now) m (is .now))
 
   -- what `offer` is passed, and what it says
   abbrev ArgH : Type 0
@@ -172,10 +170,9 @@ module _ {M : Type 1} (𝓤 : URA M) (H : Heap 𝓤) (A : Atoms 𝓤) (W : Given
   exits : (r : Recording) (N : List Node) (I : List ℕ) (c d : ℕ) → r .number < 2 ^ 32 → Told r I c d → Offered r N → length N ≡ m → length I ≡ length (is .now)
       → ent 𝓤 (⋆ 𝓤 H A ((‵ (flft κ₁ q₁) ⊛ ‵ ftrue) ∷ (‵ (flft κ₀ q₀) ⊛ Tok) ∷ ‵ (finally T.the-row (ns .name) N) ∷ ‵ (finally u32 (is .name) I) ∷ ‵ (Ends c d) ∷ [])) (Post (vint w32 (r .number)))
   exits r N I c d small told offered en ei =
-      let w = recorded-written (bs .now) (ns .now) N (is .now) I r (told .0) offered in
       qed W ((‵ (flft κ₁ q₁) ⊛ ‵ ftrue) ∷ (‵ (flft κ₀ q₀) ⊛ Tok) ∷ ‵ (finally T.the-row (ns .name) N) ∷ ‵ (finally u32 (is .name) I) ∷ ‵ (Ends c d) ∷ []) ∵
       suffices ! _ (ends-at 𝓤 H A f.ended stayed (f.clauses 𝓤 H A mem run) W ((κs, (q₀, (q₁, (q₂, (q₃, (q₄, tt))))), tt, x, at), tt) (vint w32 (r .number)) (r .number) (tt, (N, (I, (c, (d, tt))))) (tt, (en, (ei, (tt, (tt, tt)))))) $
-      says ! (w .0, told .1, told .2, w .1, w .2) $
+      says ! (records-written (bs .now) (ns .now) (is .now) told offered) $
       split ! $ move ! (2 ∷ []) $ split ! $ move ! (2 ∷ 1 ∷ []) $ join ! $ move ! (1 ∷ 0 ∷ []) $ join ! $ frame ! $
       -- [true; the last nodes; the last items; the last fields]
       move ! (2 ∷ 3 ∷ []) $ fjoin ! $ move ! (2 ∷ 0 ∷ []) $ fjoin ! $ move ! (1 ∷ 0 ∷ []) $ fjoin ! $ frame ! $
@@ -210,7 +207,7 @@ module _ {M : Type 1} (𝓤 : URA M) (H : Heap 𝓤) (A : Atoms 𝓤) (W : Given
       -- [the tokens; the last items; the last fields; κ₁; ON; room for _14; …]
       assigns ! (addr ! (from ! (fld ! refl (hop ! (look-in ! 29 (sub ! 0 refl (whole !))) (stop !))))) (from ! (stop !)) (init ! 7 refl (tt, tt)) $
       assigns ! (agg ! (and-then ! (load ! (from ! (stop !)) (look ! 7 refl)) (and-then ! (load ! (from ! (fld ! refl (stop !))) (look-in ! 29 (sub ! 1 refl (whole !)))) (no-more !)))) (from ! (stop !)) (init ! 5 refl (tt, (tt, (record { fits = gn .0 }, tt)))) $
-      move ! (3 ∷ 4 ∷ []) $ use2 W (raw (Offer 𝓤 H A mem run .pre (to-offer r))) (asks-offer r (list-is r _ ok) (count-small r _ ok) (recorded-fits (bs .now) m (length (is .now)) (is .now) (z .1 .1 .0) r (told .0))) $
+      move ! (3 ∷ 4 ∷ []) $ use2 W (raw (Offer 𝓤 H A mem run .pre (to-offer r))) (asks-offer r (list-is r _ ok) (count-small r _ ok) (records-fit (bs .now) m (is .now) told)) $
       calls-at ! (fmOf 𝓤 H (W .laws) 𝓣) (Offer 𝓤 H A mem run) known-offer (to-offer r)
       (and-then ! (load ! (from ! (stop !)) (look ! 4 refl)) (and-then ! (load ! (from ! (fld ! refl (stop !))) (look-in ! 20 (sub ! 2 refl (whole !)))) (and-then ! (load ! (from ! (fld ! refl (stop !))) (look-in ! 20 (sub ! 1 refl (whole !)))) (no-more !)))) (λ e.
       use1 W (later (some (λ (s : Unit {0}). ((‵ (flft κ₁ q₁) ⊛ ‵ ftrue) ⊛ ‵ (unit .own s (e ∷ []))) ⊛ raw (ensured 𝓤 H A h.ended (h.clauses 𝓤 H A mem run) (κ₁, tt) (xh r) tt s)))) (id⊢ 𝓤 _) $ await ! tt $ pick ! (λ s.

@@ -1,4 +1,10 @@
 -- `viskunor::sets::vk_set_nearest` meets its contract. Assumes nothing.
+use mathlib.Core.Path.{ap}
+use Rattle.nearest.specs.declared.Nearest.{Nearest}
+use Rattle.accept.specs.Answers.{Outcome, inFields}
+use Rattle.index.specs.Buffer.{IndexBuffer}
+use Rattle.nearest.specs.Nearest.{nearestFields}
+use Rattle.nearest.specs.Answers.{nearestCall}
 use borrow.Author.Needs.{needs}
 use Rattle.viskunor.proofs.sets.vk_set_nearest.Statement.{statement}
 use Rattle.viskunor.proofs.sets.vk_set_nearest.Tie as tie
@@ -6,8 +12,8 @@ use Rattle.viskunor.proofs.sets.vk_set_nearest.Tie as tie
 nearest-to-requires : tie.Need-nearest-to-requires
 nearest-to-requires c κs = search needs
 
-fields-requires : tie.Need-fields-requires
-fields-requires c κs = search needs
+nearest-fields-requires : tie.Need-nearest-fields-requires
+nearest-fields-requires c κs = search needs
 
 same-length : tie.Need-same-length
 same-length c = search needs
@@ -19,17 +25,17 @@ same-length-3 : tie.Need-same-length-3
 same-length-3 c = search needs
 
 returns : tie.Need-returns
+unfolding nearestCall
 returns c =
-    let f = c .fields .ensures in
-    let m = c .before .before .before .before .before .before .before .nearest-to .ensures in
-    (rw (f, m .0), rw (f, m .0), rw (f, m .0), rw (f, m .0), m .1, m .2, m .3)
+    let m = c .before .before .before .before .before .before .before in
+    rw (c .nearest-fields .ensures) (ap (λ (o : Outcome Nearest IndexBuffer). inFields nearestFields o) (m .nearest-to .ensures))
 
 pub vk-set-nearest-spec : {M : Type 1} → statement M
 vk-set-nearest-spec =
     tie.close
     (tie.spec
     nearest-to-requires
-    fields-requires
+    nearest-fields-requires
     same-length
     same-length-2
     same-length-3

@@ -1,7 +1,7 @@
--- `index::answers::fields` meets its contract. Assumes nothing.
+-- `index::answers::build_fields` meets its contract. Assumes nothing.
 use borrow.Author.Needs.{needs}
-use Rattle.index.proofs.answers.fields.Statement.{statement}
-use Rattle.index.proofs.answers.fields.Tie as tie
+use Rattle.index.proofs.answers.build_fields.Statement.{statement}
+use Rattle.index.proofs.answers.build_fields.Tie as tie
 
 enum-known-b : tie.Need-enum-known-b
 enum-known-b c = search needs
@@ -18,5 +18,5 @@ returns c = rw (c .number-of .ensures, c .before .before .b .given .1)
 returns-2 : tie.Need-returns-2
 returns-2 c = rw (c .before .b2 .given .1)
 
-pub fields-spec : {M : Type 1} → statement M
-fields-spec = tie.close (tie.spec enum-known-b number-of-requires enum-known-b-2 returns returns-2)
+pub build-fields-spec : {M : Type 1} → statement M
+build-fields-spec = tie.close (tie.spec enum-known-b number-of-requires enum-known-b-2 returns returns-2)

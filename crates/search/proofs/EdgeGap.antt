@@ -1,0 +1,125 @@
+-- The gap of a box that has the nearest point of an edge is at most the edge's distance: a corner of the box is an `f64`, and may be infinite. Assumes nothing.
+use mathlib.Core.Bool.{not, true, false}
+use lib.Dec.{T}
+use lib.Ieee.{Float, nan, inf, fin, binary64, add, sub, neg, lt, le, eq, isNan, fits}
+use lib.Ieee.Scale.{finite}
+use Rattle.number.specs.Exact.{Held, zeroᶠ}
+use Rattle.signs.specs.Signs.{absOf, maxOf}
+use Rattle.number.proofs.Operations.{finite-is, sub-rounds}
+use Rattle.number.proofs.HypotLaws.{hypot-mono}
+use Rattle.number.proofs.OrderLaws.{le-self, le-through, max-one-of, abs-nonneg, abs-at-most, le-max-left, le-max-right, right-not-nan}
+use Rattle.number.proofs.Values.{held-not-nan, rounds-not-nan}
+use Rattle.boundary.specs.declared.Point.{Point}
+use Rattle.boundary.specs.declared.Edge.{Edge}
+use Rattle.boundary.specs.declared.Bounds.{Bounds}
+use Rattle.boundary.specs.Boxes.{FieldPoint, FieldEdge, FieldBox, Between, Inside, Around, widenedOf, gapAlong, gapOf}
+use Rattle.boundary.specs.Line.{paramOf, footOf, lineNear}
+use Rattle.boundary.proofs.AlongLaws.{along-fits, between-held}
+use Rattle.boundary.proofs.AroundLaws.{Number}
+use Rattle.boundary.proofs.BoxLaws.{foot-inside, around-inside, widened-box-finite, gap-along}
+use Rattle.boundary.proofs.FieldLaws.{field-held}
+use Rattle.search.specs.Walk.{DoubleBox}
+
+difference-number : {a b : Float} → Held a → Held b → Number (sub binary64 a b)
+difference-number A B = rounds-not-nan (sub-rounds (finite-is A .1) (finite-is B .1))
+
+least : (x : Float) → Number x → T (le (inf true) x)
+unfolding le lt eq isNan
+least nan n = absurd n
+least (inf true) n = tt
+least (inf false) n = tt
+least (fin s m e) n = tt
+
+-- ---- of one axis: p and q are finite, and q is between lo and hi
+module _ {p q : Float} (P : Held p) (Q : Held q) where
+  abbrev d : Float
+  d = sub binary64 p q
+
+  d-number : Number d
+  d-number = difference-number P Q
+
+  size-number : Number (absOf d)
+  size-number = right-not-nan zeroᶠ (absOf d) (abs-nonneg d d-number)
+
+  self : T (le q q)
+  self = le-self q (held-not-nan Q)
+
+  -- a finite end
+  low-finite : {lo : Float} → Held lo → T (le lo q) → T (le (sub binary64 lo p) (absOf d))
+  unfolding gapAlong
+  low-finite {lo} L h =
+      let a = sub binary64 lo p in
+      let n = difference-number L P in
+      le-through a (gapAlong lo q p) (absOf d)
+      (le-through a (maxOf a d) (gapAlong lo q p) (le-max-left a d n d-number) (le-max-left (maxOf a d) zeroᶠ (max-one-of Number {x = a} {y = d} n d-number) (unfold isNan in tt)))
+      (gap-along L Q P Q (record { low = h; high = self }))
+
+  high-finite : {hi : Float} → Held hi → T (le q hi) → T (le (sub binary64 p hi) (absOf d))
+  unfolding gapAlong
+  high-finite {hi} H h =
+      let a = sub binary64 q p in
+      let b = sub binary64 p hi in
+      let n = difference-number Q P in
+      let m = difference-number P H in
+      le-through b (gapAlong q hi p) (absOf d)
+      (le-through b (maxOf a b) (gapAlong q hi p) (le-max-right a b m) (le-max-left (maxOf a b) zeroᶠ (max-one-of Number {x = a} {y = b} n m) (unfold isNan in tt)))
+      (gap-along Q H P Q (record { low = self; high = h }))
+
+  -- an infinite one
+  infinite-low : (p : Float) → T (finite p) → (x : Float) → Number x → T (le (sub binary64 (inf true) p) x)
+  unfolding sub add neg
+  infinite-low nan f x n = absurd f
+  infinite-low (inf s) f x n = absurd f
+  infinite-low (fin s m e) f x n = least x n
+
+  infinite-high : (p : Float) → T (finite p) → (x : Float) → Number x → T (le (sub binary64 p (inf false)) x)
+  unfolding sub add neg
+  infinite-high nan f x n = absurd f
+  infinite-high (inf s) f x n = absurd f
+  infinite-high (fin s m e) f x n = least x n
+
+  never-above : (q : Float) → T (finite q) → T (le (inf false) q) → ⊥
+  unfolding le lt eq
+  never-above nan f h = absurd f
+  never-above (inf s) f h = absurd f
+  never-above (fin s m e) f h = absurd h
+
+  never-below : (q : Float) → T (finite q) → T (le q (inf true)) → ⊥
+  unfolding le lt eq
+  never-below nan f h = absurd f
+  never-below (inf s) f h = absurd f
+  never-below (fin s m e) f h = absurd h
+
+  low : (lo : Float) → T (fits binary64 lo) → T (le lo q) → T (le (sub binary64 lo p) (absOf d))
+  unfolding le lt eq
+  low nan F h = absurd h
+  low (inf true) F h = infinite-low p (P .finite) (absOf d) size-number
+  low (inf false) F h = absurd (never-above q (Q .finite) h)
+  low (fin s m e) F h = low-finite (record { fits = F; finite = tt }) h
+
+  high : (hi : Float) → T (fits binary64 hi) → T (le q hi) → T (le (sub binary64 p hi) (absOf d))
+  unfolding isNan
+  high nan F h = absurd (right-not-nan q nan h)
+  high (inf true) F h = absurd (never-below q (Q .finite) h)
+  high (inf false) F h = infinite-high p (P .finite) (absOf d) size-number
+  high (fin s m e) F h = high-finite (record { fits = F; finite = tt }) h
+
+  gap-size : (lo hi : Float) → T (fits binary64 lo) → T (fits binary64 hi) → Between lo q hi → T (le (absOf (gapAlong lo hi p)) (absOf d))
+  unfolding gapAlong
+  gap-size lo hi L H i =
+      let below : Float → Type 0 = λ x. T (le x (absOf d)) in
+      abs-at-most (gapAlong lo hi p) (absOf d) (le-max-right (maxOf (sub binary64 lo p) (sub binary64 p hi)) zeroᶠ (unfold isNan in tt))
+      (max-one-of below (max-one-of below (low lo L (i .low)) (high hi H (i .high))) (abs-nonneg d d-number))
+
+-- ---- THE GAP of every box of `f64`s around the widened box of a box that has both ends of an edge is at most the edge's distance
+pub gap-edge : {e : Edge} {p : Point} {n b : Bounds} → FieldEdge e → FieldPoint p → FieldBox b → Inside (e .a) b → Inside (e .b) b → DoubleBox n → Around n (widenedOf b) → T (le (gapOf n p) (lineNear e p .d))
+unfolding gapOf lineNear footOf
+gap-edge {e} {p} {n} E P B ia ib N A =
+    let w = widened-box-finite B in
+    let i = foot-inside E P B ia ib in
+    let j = around-inside A i in
+    let x = between-held (w .min .x) (w .max .x) (along-fits (e .a .x) (e .b .x) (paramOf e p) (E .b .x .fits)) (i .x) in
+    let y = between-held (w .min .y) (w .max .y) (along-fits (e .a .y) (e .b .y) (paramOf e p) (E .b .y .fits)) (i .y) in
+    hypot-mono (gapAlong (n .min .x) (n .max .x) (p .x)) (gapAlong (n .min .y) (n .max .y) (p .y)) (sub binary64 (p .x) (footOf e p .x)) (sub binary64 (p .y) (footOf e p .y))
+    (gap-size (field-held (P .x)) x (n .min .x) (n .max .x) (N .min .x) (N .max .x) (j .x))
+    (gap-size (field-held (P .y)) y (n .min .y) (n .max .y) (N .min .y) (N .max .y) (j .y))
