@@ -139,7 +139,8 @@ leaf-grown v C C′ L L′ is₀ is₁ h c l i ec el ei =
     let s : sort leb N ≡ N = sort-sorted leb N (run-ascends 0 (boxCount v)) in
     let k : length (sort leb N) ≡ boxCount v = ap length s ∙ n in
     let f : is₁ ≡ sort leb N = ei ∙ ap (run (λ i. i) 0) (length-take-le (boxCount v) is₀ (omega arith)) ∙ sym s in
-    subst (λ (t : Tree). record { answer = 1; lent = buffer C′ L′ (is₁ ++ drop (boxCount v) is₀) } ≡ grown t (buffer C L is₀)) (sym (tree-leaf (wideAt v) (λ i. centreOf (wideAt v i)) (length N) N (omega arith)))
+    subst (λ (t : Tree). record { answer = 1; lent = buffer C′ L′ (is₁ ++ drop (boxCount v) is₀) } ≡ grown t (buffer C L is₀))
+    (sym (tree-leaf (wideAt v) (λ i. centreOf (wideAt v i)) (length N) N (omega arith)))
     (leaf-put (hullOf (wideAt v) N) (sort leb N) C C′ L L′ is₀ (is₁ ++ drop (boxCount v) is₀) (omega arith) (omega arith) ec (rw k el) (rw (k, f)))
 
 -- ---- what a list that passes the tests has
@@ -177,29 +178,34 @@ accepted-of v c l i e p =
     let t = or-none (ltb l 1022) (ltb i 1024) (s .1) in
     record { size = b .size; whole = b .whole; corners = ltb-false c 2044 (s .0); links = ltb-false l 1022 (t .0); items = ltb-false i 1024 (t .1) }
 
-pub accepted : (v : List Float) (B : IndexBuffer) {t : Test} → t ≡ buildTested v B → t ≡ Passed → Accepted v (length (B .corners)) (length (B .links)) (length (B .items))
+pub accepted : (v : List Float) (B : IndexBuffer) {t : Test} → t ≡ buildTested v B → t ≡ Passed
+    → Accepted v (length (B .corners)) (length (B .links)) (length (B .items))
 unfolding buildTested
 accepted v B tested e =
     let p = refusing-passed (boxesTested v) ShortBuffer (shortBuffer B) (sym tested ∙ e) in
     accepted-of v (length (B .corners)) (length (B .links)) (length (B .items)) (p .1) (p .0)
 
 -- ---- all that building leaves
-pub built : (v : List Float) (B : IndexBuffer) {t : Test} {k : ℕ} {D : IndexBuffer} → t ≡ buildTested v B → t ≡ Passed → record { answer = k; lent = D } ≡ grown (indexOf v) B
+pub built : (v : List Float) (B : IndexBuffer) {t : Test} {k : ℕ} {D : IndexBuffer} → t ≡ buildTested v B → t ≡ Passed
+    → record { answer = k; lent = D } ≡ grown (indexOf v) B
     → record { answer = Sized k (boxCount v); lent = D } ≡ buildOutcome v B
 unfolding buildOutcome
 built v B tested e g = rw (← tested, e, grown-nodes (indexOf v) B g, grown-lent (indexOf v) B g, length-index-items v)
 
-pub build-refused : (v : List Float) (B : IndexBuffer) {t : Test} {r : Refusal} → t ≡ buildTested v B → t ≡ Failed r → record { answer = Refused r; lent = B } ≡ buildOutcome v B
+pub build-refused : (v : List Float) (B : IndexBuffer) {t : Test} {r : Refusal} → t ≡ buildTested v B → t ≡ Failed r
+    → record { answer = Refused r; lent = B } ≡ buildOutcome v B
 unfolding buildOutcome
 build-refused v B tested e = rw (← tested, e)
 
 -- with its answer in the fields
-pub build-call : (v : List Float) (B : IndexBuffer) {b : Built} {f : BuildFields} {D : IndexBuffer} → record { answer = b; lent = D } ≡ buildOutcome v B → f ≡ buildFieldsOf b → record { answer = f; lent = D } ≡ buildCall v B
+pub build-call : (v : List Float) (B : IndexBuffer) {b : Built} {f : BuildFields} {D : IndexBuffer}
+    → record { answer = b; lent = D } ≡ buildOutcome v B → f ≡ buildFieldsOf b → record { answer = f; lent = D } ≡ buildCall v B
 unfolding buildCall
 build-call v B e told = rw told (ap (λ (o : Outcome Built IndexBuffer). record { answer = buildFieldsOf (o .answer); lent = o .lent }) e)
 
 -- what was built is gone once the buffer is cleared
-pub holding-cleared : (v : List Float) (B : IndexBuffer) → Accepted v (length (B .corners)) (length (B .links)) (length (B .items)) → cleared (holding (indexOf v) B) ≡ cleared B
+pub holding-cleared : (v : List Float) (B : IndexBuffer) → Accepted v (length (B .corners)) (length (B .links)) (length (B .items))
+    → cleared (holding (indexOf v) B) ≡ cleared B
 unfolding cleared holding
 holding-cleared v B A =
     let t = indexOf v in

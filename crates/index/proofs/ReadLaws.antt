@@ -126,7 +126,8 @@ stored-holds t C L is =
     }
 
 -- a tree that is held so, of which each leaf has an item, stands there
-holds-stands : (B : IndexBuffer) (t : Tree) (at n next : ℕ) → Holds (B .corners) (B .links) (B .items) t at n next → Filled t → next + extra t ≤ 511 → Stands B n t
+holds-stands : (B : IndexBuffer) (t : Tree) (at n next : ℕ) → Holds (B .corners) (B .links) (B .items) t at n next → Filled t → next + extra t ≤ 511
+    → Stands B n t
 unfolding Stands Filled nodeOf itemsOf extra
 holds-stands B (leaf b is) at n next h f room = (h .own .box, rw (h .own .count) f, rw (h .own .first, h .own .count) (h .items))
 holds-stands B (inner b l r) at n next h f room = (
@@ -146,9 +147,11 @@ holding-stands t B f room = holds-stands (holding t B) t 0 0 1 (stored-holds t (
 -- four times 2^k items at most have k levels of inner nodes at most
 pub tree-levels : (W : ℕ → Bounds) (C : ℕ → Point) (k : ℕ) (is : List ℕ) → length is ≤ 4 * 2 ^ k → levels (treeOf W C is) ≤ suc k
 unfolding levels
-tree-levels W C k is h = tree-induct W C (λ is t. (k : ℕ) → length is ≤ 4 * 2 ^ k → levels t ≤ suc k) (λ is _ k _. omega arith) step (length is) is (omega arith) k h
+tree-levels W C k is h =
+    tree-induct W C (λ is t. (k : ℕ) → length is ≤ 4 * 2 ^ k → levels t ≤ suc k) (λ is _ k _. omega arith) step (length is) is (omega arith) k h
   where
-    step : (is : List ℕ) (l r : Tree) → 4 < length is → ((k : ℕ) → length (left C is) ≤ 4 * 2 ^ k → levels l ≤ suc k) → ((k : ℕ) → length (right C is) ≤ 4 * 2 ^ k → levels r ≤ suc k)
+    step : (is : List ℕ) (l r : Tree) → 4 < length is → ((k : ℕ) → length (left C is) ≤ 4 * 2 ^ k → levels l ≤ suc k)
+        → ((k : ℕ) → length (right C is) ≤ 4 * 2 ^ k → levels r ≤ suc k)
         → (k : ℕ) → length is ≤ 4 * 2 ^ k → levels (inner (hullOf W is) l r) ≤ suc k
     step is l r h p q zero n = absurd (omega arith)
     step is l r h p q (suc k) n =
@@ -164,7 +167,8 @@ pub tree-filled : (W : ℕ → Bounds) (C : ℕ → Point) (is : List ℕ) → 0
 unfolding Filled
 tree-filled W C is s = tree-induct W C (λ is t. 0 < length is → Filled t) (λ is _ s. rw (length-sort leb is) s) step (length is) is (omega arith) s
   where
-    step : (is : List ℕ) (l r : Tree) → 4 < length is → (0 < length (left C is) → Filled l) → (0 < length (right C is) → Filled r) → 0 < length is → Filled (inner (hullOf W is) l r)
+    step : (is : List ℕ) (l r : Tree) → 4 < length is → (0 < length (left C is) → Filled l) → (0 < length (right C is) → Filled r) → 0 < length is
+        → Filled (inner (hullOf W is) l r)
     step is l r h p q s =
         let a = length-left C is in
         let b = length-right C is in

@@ -183,7 +183,8 @@ pub fn grow_or_leaf(
 // Zeros in the nodes and items of an index buffer that was used for work.
 pub fn clear(corners: &mut [f64], links: &mut [u32], items: &mut [u32])
     requires { ⌜ (2044 ≤ length (now corners)) × (1022 ≤ length (now links)) × (1024 ≤ length (now items)) ⌝ }
-    ensures { λ _. ⌜ buffer (now (corners .exit)) (now (links .exit)) (now (items .exit)) ≡ cleared (buffer (now (corners .entry)) (now (links .entry)) (now (items .entry))) ⌝ }
+    ensures { λ _. ⌜ buffer (now (corners .exit)) (now (links .exit)) (now (items .exit))
+        ≡ cleared (buffer (now (corners .entry)) (now (links .entry)) (now (items .entry))) ⌝ }
 {
     lists::clear_numbers(corners, 2044);
     lists::clear_counts(links, 1022);

@@ -131,9 +131,12 @@ module _ (v : List Float) (c : Bounds) (passed : boxesTested v ≡ Passed) (B : 
           let n = length-index-items v in
           let l = length-meeting c (indexOf v) in
           sym (no-items (meetingOf c (indexOf v)) (omega arith))
-      go false e = hits-is c (holding (indexOf v) B) (indexOf v) d 0 (index-stands v B passed (eqb-false (length v) 0 e)) h ∙ visited-is c (indexOf v) (nested v passed)
+      go false e =
+          hits-is c (holding (indexOf v) B) (indexOf v) d 0 (index-stands v B passed (eqb-false (length v) 0 e)) h
+          ∙ visited-is c (indexOf v) (nested v passed)
 
-  pub listed-of : (d : ℕ) (D E : IndexBuffer) (S S′ : List ℕ) (k r : ℕ) → levels (indexOf v) ≤ d → Accepted v (length (B .corners)) (length (B .links)) (length (B .items)) → 1024 ≤ length S
+  pub listed-of : (d : ℕ) (D E : IndexBuffer) (S S′ : List ℕ) (k r : ℕ) → levels (indexOf v) ≤ d
+      → Accepted v (length (B .corners)) (length (B .links)) (length (B .items)) → 1024 ≤ length S
       → record { answer = k; lent = D } ≡ grown (indexOf v) B → Puts S 0 (found d (length v) D c) S′ r → E ≡ cleared D
       → record { answer = r; lent = record { buffer = E; list = S′ } } ≡ listing v c B S
   unfolding listing atFront
@@ -153,7 +156,8 @@ module _ (v : List Float) (c : Bounds) (passed : boxesTested v ≡ Passed) (B : 
 
 module _ (v : List Float) (c : Bounds) (B : IndexBuffer) (S : List ℕ) where
   -- what a call that passes the tests has
-  pub meeting-accepted : {t : Test} → t ≡ meetingTested v c B S → t ≡ Passed → Accepted v (length (B .corners)) (length (B .links)) (length (B .items)) × (boxesTested v ≡ Passed) × (1024 ≤ length S)
+  pub meeting-accepted : {t : Test} → t ≡ meetingTested v c B S → t ≡ Passed
+      → Accepted v (length (B .corners)) (length (B .links)) (length (B .items)) × (boxesTested v ≡ Passed) × (1024 ≤ length S)
   unfolding meetingTested
   meeting-accepted tested e =
       let cell = boxesTested v refusing BadBox when not (boxFits c) in
@@ -167,10 +171,12 @@ module _ (v : List Float) (c : Bounds) (B : IndexBuffer) (S : List ℕ) where
   listing-count e = ap (λ (o : Outcome ℕ MeetingLent). o .answer) e
 
   -- what every call leaves
-  pub met : {t : Test} {r : ℕ} {M : MeetingLent} → t ≡ meetingTested v c B S → t ≡ Passed → record { answer = r; lent = M } ≡ listing v c B S → record { answer = Told r; lent = M } ≡ meetingOutcome v c B S
+  pub met : {t : Test} {r : ℕ} {M : MeetingLent} → t ≡ meetingTested v c B S → t ≡ Passed → record { answer = r; lent = M } ≡ listing v c B S
+      → record { answer = Told r; lent = M } ≡ meetingOutcome v c B S
   unfolding meetingOutcome
   met tested e l = rw (← tested, e) (ap (λ (o : Outcome ℕ MeetingLent). record { answer = Told (o .answer); lent = o .lent }) l)
 
-  pub meeting-refused : {t : Test} {r : Refusal} → t ≡ meetingTested v c B S → t ≡ Failed r → record { answer = Refused r; lent = record { buffer = B; list = S } } ≡ meetingOutcome v c B S
+  pub meeting-refused : {t : Test} {r : Refusal} → t ≡ meetingTested v c B S → t ≡ Failed r
+      → record { answer = Refused r; lent = record { buffer = B; list = S } } ≡ meetingOutcome v c B S
   unfolding meetingOutcome
   meeting-refused tested e = rw (← tested, e)

@@ -72,7 +72,8 @@ pub no-run : (l : List ℕ) (k : ℕ) → k ≤ length l → Puts l k [] l k
 no-run l k h = puts l k [] l k refl (omega arith)
 
 -- one item more of a leaf
-pub next-item : (g : ℕ → ℕ) (f i : ℕ) (l m n : List ℕ) (k j r x : ℕ) → Puts l k (run g f i) m j → x ≡ g (f + i) → Puts m j (x ∷ []) n r → Puts l k (run g f (i + 1)) n r
+pub next-item : (g : ℕ → ℕ) (f i : ℕ) (l m n : List ℕ) (k j r x : ℕ) → Puts l k (run g f i) m j → x ≡ g (f + i) → Puts m j (x ∷ []) n r
+    → Puts l k (run g f (i + 1)) n r
 next-item g f i l m n k j r x p e q = rw (add-one i, run-last g f i, ← e) (two-runs l m n k j r (run g f i) (x ∷ []) p q)
 
 pub same-run : (l m xs ys : List ℕ) (k r : ℕ) → xs ≡ ys → Puts l k xs m r → Puts l k ys m r
@@ -84,7 +85,8 @@ suc-of zero h = absurd (h refl)
 suc-of (suc d) h = omega arith
 
 module _ (B : IndexBuffer) (c : Bounds) (n : ℕ) where
-  pub hits-level : (d : ℕ) → hits (suc d) B c n ≡ cond (apart (nodeBox B n) c) [] (cond (ltb 0 (countAt (B .links) n)) (leafItems B n) (hits d B c (firstAt (B .links) n) ++ hits d B c (firstAt (B .links) n + 1)))
+  pub hits-level : (d : ℕ)
+      → hits (suc d) B c n ≡ cond (apart (nodeBox B n) c) [] (cond (ltb 0 (countAt (B .links) n)) (leafItems B n) (hits d B c (firstAt (B .links) n) ++ hits d B c (firstAt (B .links) n + 1)))
   unfolding hits
   hits-level d = refl
 
@@ -102,4 +104,6 @@ module _ (B : IndexBuffer) (c : Bounds) (n : ℕ) where
     hits-leaf h = rw (← suc-of d some, hits-level (d - 1), meets, lt-ltb 0 (countAt (B .links) n) (omega arith), ef, ek)
 
     pub hits-inner : k ≤ 0 → hits (d - 1) B c f ++ hits (d - 1) B c (f + 1) ≡ hits d B c n
-    hits-inner h = let z : suc (d - 1) - 1 ≡ d - 1 = omega arith in rw (← suc-of d some, z, hits-level (d - 1), meets, le-ltb 0 (countAt (B .links) n) (omega arith), ef)
+    hits-inner h =
+        let z : suc (d - 1) - 1 ≡ d - 1 = omega arith in
+        rw (← suc-of d some, z, hits-level (d - 1), meets, le-ltb 0 (countAt (B .links) n) (omega arith), ef)

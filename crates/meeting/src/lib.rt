@@ -120,7 +120,10 @@ pub fn listed(
 ) -> usize
     requires { ⌜ Accepted (now boxes) (length (now corners)) (length (now links)) (length (now items))
         × (boxesTested (now boxes) ≡ Passed) × (1024 ≤ length (now list)) ⌝ }
-    ensures { λ r. ⌜ record { answer = r; lent = record { buffer = buffer (now (corners .exit)) (now (links .exit)) (now (items .exit)); list = now (list .exit) } }
+    ensures { λ r. ⌜ record {
+      answer = r;
+      lent = record { buffer = buffer (now (corners .exit)) (now (links .exit)) (now (items .exit)); list = now (list .exit) };
+    }
         ≡ listing (now (boxes .entry)) c (buffer (now (corners .entry)) (now (links .entry)) (now (items .entry))) (now (list .entry)) ⌝ }
 {
     tree::grow_or_leaf(boxes, corners, links, items);
@@ -153,7 +156,10 @@ pub fn meeting(
     items: &mut [u32],
     list: &mut [u32],
 ) -> Answer
-    ensures { λ r. ⌜ record { answer = r; lent = record { buffer = buffer (now (corners .exit)) (now (links .exit)) (now (items .exit)); list = now (list .exit) } }
+    ensures { λ r. ⌜ record {
+      answer = r;
+      lent = record { buffer = buffer (now (corners .exit)) (now (links .exit)) (now (items .exit)); list = now (list .exit) };
+    }
         ≡ meetingOutcome (now (boxes .entry)) c (buffer (now (corners .entry)) (now (links .entry)) (now (items .entry))) (now (list .entry)) ⌝ }
 {
     let t = tested(

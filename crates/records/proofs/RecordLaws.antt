@@ -37,7 +37,8 @@ unfolding blankNodes
 length-blank = length-replicate 511 blankNode
 
 -- the run g 0, g 1, .. at the front of a list, one more
-pub front-more-run : {A : Type 0} (g : ℕ → A) (xs ys : List A) (i : ℕ) (x : A) → i < length xs → x ≡ g i → ys ≡ run g 0 i ++ drop i xs → set ys i x ≡ run g 0 (i + 1) ++ drop (i + 1) xs
+pub front-more-run : {A : Type 0} (g : ℕ → A) (xs ys : List A) (i : ℕ) (x : A) → i < length xs → x ≡ g i → ys ≡ run g 0 i ++ drop i xs
+    → set ys i x ≡ run g 0 (i + 1) ++ drop (i + 1) xs
 front-more-run {A} g xs ys i x h ex e =
     let z : 0 + i ≡ i = omega arith in
     let last : run g 0 (suc i) ≡ run g 0 i ++ (x ∷ []) = run-last g 0 i ∙ ap (λ (a : A). run g 0 i ++ (a ∷ [])) (ap g z ∙ sym ex) in
@@ -56,7 +57,8 @@ unfolding nodeIn
 read-node B K i x s = rw (s .box, s .first, s .count)
 
 -- an index buffer's nodes are the tree's
-stored-nodes : (t : Tree) (C : List Float) (L : List ℕ) → run (nodeIn (atFront (flatMap cornersOf (nodesOf t)) C) (atFront (flatMap linksOf (nodesOf t)) L)) 0 (length (nodesOf t)) ≡ nodesOf t
+stored-nodes : (t : Tree) (C : List Float) (L : List ℕ)
+    → run (nodeIn (atFront (flatMap cornersOf (nodesOf t)) C) (atFront (flatMap linksOf (nodesOf t)) L)) 0 (length (nodesOf t)) ≡ nodesOf t
 unfolding atFront
 stored-nodes t C L =
     let N = nodesOf t in
@@ -68,7 +70,8 @@ stored-nodes t C L =
     (λ i h. let l : i < length N = rw n at h in let z : 0 + i ≡ i = omega arith in run-at (nodeIn B K) 0 (length N) i e l ∙ ap (nodeIn B K) z ∙ read-node B K i (getD N i e) (node-is N (drop (length (flatMap cornersOf N)) C) (drop (length (flatMap linksOf N)) L) e [] i l))
 
 -- ---- a tree that is built, as records
-pub recorded-grown : (t : Tree) (B D : IndexBuffer) {n : ℕ} {xs : List Node} → record { answer = n; lent = D } ≡ grown t B → xs ≡ atFront (run (nodeIn (D .corners) (D .links)) 0 n) blankNodes
+pub recorded-grown : (t : Tree) (B D : IndexBuffer) {n : ℕ} {xs : List Node} → record { answer = n; lent = D } ≡ grown t B
+    → xs ≡ atFront (run (nodeIn (D .corners) (D .links)) 0 n) blankNodes
     → record { answer = record { number = 0; count = n; list = xs }; lent = D .items } ≡ recording t (B .items)
 unfolding holding recording
 recorded-grown t B D {n} {xs} g e =
@@ -102,7 +105,8 @@ few-nodes v p = let s = boxes-passed v p .0 in index-nodes v (omega arith)
 
 -- ---- all that `records` leaves
 module _ (v : List Float) (room : ℕ) (I : List ℕ) where
-  pub records-passed : {t : Test} {r : Recording} {I′ : List ℕ} → t ≡ nodesTested v room (length I) → t ≡ Passed → record { answer = r; lent = I′ } ≡ recording (indexOf v) I
+  pub records-passed : {t : Test} {r : Recording} {I′ : List ℕ} → t ≡ nodesTested v room (length I) → t ≡ Passed
+      → record { answer = r; lent = I′ } ≡ recording (indexOf v) I
       → record { answer = r; lent = record { nodeCount = r .count; itemCount = boxCount v; items = I′ } } ≡ recordsOutcome v room I
   unfolding recordsOutcome
   records-passed {r = r} {I′ = I′} tested e s =
@@ -111,7 +115,8 @@ module _ (v : List Float) (room : ℕ) (I : List ℕ) where
       rw (← tested, e, recorded-count (indexOf v) I s, answer, items, length-index-items v)
 
   pub records-refused : {t : Test} {r : Refusal} → t ≡ nodesTested v room (length I) → t ≡ Failed r
-      → record { answer = record { number = number r; count = 0; list = blankNodes }; lent = record { nodeCount = 0; itemCount = 0; items = I } } ≡ recordsOutcome v room I
+      → record { answer = record { number = number r; count = 0; list = blankNodes }; lent = record { nodeCount = 0; itemCount = 0; items = I } }
+      ≡ recordsOutcome v room I
   unfolding recordsOutcome
   records-refused tested e = rw (← tested, e)
 
@@ -128,8 +133,8 @@ module _ (v : List Float) (room : ℕ) (I : List ℕ) where
   pub records-fit : {r : Recording} {l : RecordsLent} → record { answer = r; lent = l } ≡ recordsOutcome v room I → (r .count ≤ 511) × (r .count ≤ room)
   unfolding recordsOutcome
   records-fit {r = r} e =
-      count-fits (r .count) (nodesTested v room (length I)) refl
-      (ap (λ (o : Outcome Recording RecordsLent). o .answer .count) e ∙ given-map (λ (o : Outcome Recording RecordsLent). o .answer .count) (nodesTested v room (length I)) _ _)
+      let count : Outcome Recording RecordsLent → ℕ = λ o. o .answer .count in
+      count-fits (r .count) (nodesTested v room (length I)) refl (ap count e ∙ given-map count (nodesTested v room (length I)) _ _)
 
 -- ---- and what the call leaves once the records are written to the lent list
 module _ (v : List Float) (N : List Node) (I : List ℕ) where
@@ -139,10 +144,13 @@ module _ (v : List Float) (N : List Node) (I : List ℕ) where
     lent = record { nodes = take (o .answer .count) (o .answer .list) ++ drop (o .answer .count) N; items = o .lent .items };
   }
 
-  pub records-written : {r : Recording} {N′ : List Node} {I′ : List ℕ} {c d : ℕ} → record { answer = r; lent = record { nodeCount = c; itemCount = d; items = I′ } } ≡ recordsOutcome v (length N) I
-      → N′ ≡ take (r .count) (r .list) ++ drop (r .count) N → record { answer = record { number = r .number; nodes = c; items = d }; lent = record { nodes = N′; items = I′ } } ≡ nodesCall v N I
+  pub records-written : {r : Recording} {N′ : List Node} {I′ : List ℕ} {c d : ℕ}
+      → record { answer = r; lent = record { nodeCount = c; itemCount = d; items = I′ } } ≡ recordsOutcome v (length N) I
+      → N′ ≡ take (r .count) (r .list) ++ drop (r .count) N
+      → record { answer = record { number = r .number; nodes = c; items = d }; lent = record { nodes = N′; items = I′ } } ≡ nodesCall v N I
   unfolding recordsOutcome recording nodesCall atFront
   records-written e offered =
       let t = indexOf v in
-      let front : take (length (nodesOf t)) (nodesOf t ++ drop (length (nodesOf t)) blankNodes) ≡ nodesOf t = take-at (nodesOf t) (drop (length (nodesOf t)) blankNodes) (length (nodesOf t)) refl in
+      let k = length (nodesOf t) in
+      let front : take k (nodesOf t ++ drop k blankNodes) ≡ nodesOf t = take-at (nodesOf t) (drop k blankNodes) k refl in
       rw offered (ap written e ∙ given-map written (nodesTested v (length N) (length I)) _ _ ∙ rw front)

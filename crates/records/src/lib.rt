@@ -105,7 +105,10 @@ pub fn records(
     node_count: &mut u32,
     item_count: &mut u32,
 ) -> Recording
-    ensures { λ r. ⌜ record { answer = r; lent = record { nodeCount = now («node_count» .exit); itemCount = now («item_count» .exit); items = now (items .exit) } }
+    ensures { λ r. ⌜ record {
+      answer = r;
+      lent = record { nodeCount = now («node_count» .exit); itemCount = now («item_count» .exit); items = now (items .exit) };
+    }
         ≡ recordsOutcome (now (boxes .entry)) room (now (items .entry)) ⌝ }
 {
     let t = nodes_tested(boxes, room, items.len());

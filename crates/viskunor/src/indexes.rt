@@ -21,7 +21,10 @@ pub extern "C" fn vk_index_build(
     node_count: &mut u32,
     item_count: &mut u32,
 ) -> u32
-    ensures { λ r. ⌜ record { answer = record { number = r; nodes = now («node_count» .exit); items = now («item_count» .exit) }; lent = buffer (now (corners .exit)) (now (links .exit)) (now (items .exit)) }
+    ensures { λ r. ⌜ record {
+      answer = record { number = r; nodes = now («node_count» .exit); items = now («item_count» .exit) };
+      lent = buffer (now (corners .exit)) (now (links .exit)) (now (items .exit));
+    }
         ≡ buildCall (now (boxes .entry)) (buffer (now (corners .entry)) (now (links .entry)) (now (items .entry))) ⌝ }
 {
     let built = index::new(boxes, corners, links, items);
@@ -40,7 +43,17 @@ pub extern "C" fn vk_index_nodes(
     node_count: &mut u32,
     item_count: &mut u32,
 ) -> u32
-    ensures { λ r. ⌜ record { answer = record { number = r; nodes = now («node_count» .exit); items = now («item_count» .exit) }; lent = record { nodes = now (nodes .exit); items = now (items .exit) } }
+    ensures { λ r. ⌜ record {
+      answer = record {
+        number = r;
+        nodes = now («node_count» .exit);
+        items = now («item_count» .exit);
+      };
+      lent = record {
+        nodes = now (nodes .exit);
+        items = now (items .exit);
+      };
+    }
         ≡ nodesCall (now (boxes .entry)) (now (nodes .entry)) (now (items .entry)) ⌝ }
 {
     let made = records::records(boxes, nodes.len(), items, node_count, item_count);
@@ -61,8 +74,12 @@ pub extern "C" fn vk_index_meeting(
     list: &mut [u32],
     count: &mut u32,
 ) -> u32
-    ensures { λ r. ⌜ record { answer = record { number = r; count = now (count .exit) }; lent = record { buffer = buffer (now (corners .exit)) (now (links .exit)) (now (items .exit)); list = now (list .exit) } }
-        ≡ meetingCall (now (boxes .entry)) (cellOf «min_x» «min_y» «max_x» «max_y») (buffer (now (corners .entry)) (now (links .entry)) (now (items .entry))) (now (list .entry)) ⌝ }
+    ensures { λ r. ⌜ record {
+      answer = record { number = r; count = now (count .exit) };
+      lent = record { buffer = buffer (now (corners .exit)) (now (links .exit)) (now (items .exit)); list = now (list .exit) };
+    }
+        ≡ meetingCall (now (boxes .entry)) (cellOf «min_x» «min_y» «max_x» «max_y»)
+        (buffer (now (corners .entry)) (now (links .entry)) (now (items .entry))) (now (list .entry)) ⌝ }
 {
     let cell = Bounds {
         min: Point { x: min_x, y: min_y },
