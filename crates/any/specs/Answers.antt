@@ -5,7 +5,7 @@ use Prim.Native.Nat.{ℕ}
 use lib.Ieee.{Float}
 use Rattle.boundary.specs.declared.Point.{Point}
 use Rattle.boundary.specs.Boxes.{spot}
-use Rattle.boundary.specs.Folds as folds
+use Rattle.lists.specs.Lists.{any}
 use Rattle.boundary.specs.Outline.{edges}
 use Rattle.accept.specs.declared.Answer.{Answer}
 use Rattle.accept.specs.declared.CountFields.{CountFields}
@@ -31,7 +31,7 @@ containsIn os p k = containsOf (edges (outlineIn os k)) p
 -- some outline listed so has it
 unfoldable pub anyAt : List Outline → Point → Bool
 unfolding listedAt edges containsOf
-anyAt os p = folds.any (containsIn os p) (listedAt os p)
+anyAt os p = any (containsIn os p) (listedAt os p)
 
 -- ---- the call, over the set that v and cs are, at p, with the index buffer B
 -- yes is 1, and no is 0

@@ -18,9 +18,8 @@ use Rattle.boundary.specs.Outline.{edges}
 use Rattle.accept.specs.declared.Answer.the-variants.{Away}
 use Rattle.geometry.specs.Polygon.{containsOf}
 use Rattle.accept.specs.declared.Test.the-variants.{Passed}
-use Rattle.accept.specs.Refusals.{_refusing_when_, given, pointTested}
-use Rattle.accept.specs.Answers.{answerFor}
-use Rattle.geometry.specs.Answers.{distanceAnswer}
+use Rattle.accept.specs.Refusals.{_refusing_when_, given}
+use Rattle.geometry.specs.Answers.{queryTested, distanceAnswer}
 use Rattle.index.specs.Buffer.{IndexBuffer, shortBuffer}
 use Rattle.set.specs.Set.{Outline, outlinesOf, outlineIn}
 use Rattle.set.specs.Tests.{setTested, setQueryTested}
@@ -49,7 +48,7 @@ module _ (v : List Float) (cs : List ℕ) (passed : setTested v cs ≡ Passed) (
 
   -- the distance that the call answers is the one whose magnitude is taken
   magnitude-is : (k : ℕ) → k < length os → (d : Distance) → distanceAnswer (outlineIn os k) p ≡ Away d → magnitudeAt os p k ≡ absOf (d .d)
-  unfolding magnitudeOf distanceAnswer answerFor pointTested
+  unfolding magnitudeOf distanceAnswer queryTested given _refusing_when_
   magnitude-is k l d e =
       let o = outlineIn os k in
       let s = signedOf (nearestOf (edges o) p) p (containsOf (edges o) p) in

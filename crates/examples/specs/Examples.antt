@@ -1,6 +1,6 @@
 -- Document 01's starred examples, as one list under one statement: what the definitions give is what the document says. Assumes nothing.
 use mathlib.Core.Path.{_≡_, refl, ap, _∙_}
-use mathlib.Core.Bool.{Bool, true, false}
+use mathlib.Core.Bool.{Bool, true, false, not}
 use mathlib.Core.List.{List, [], _∷_, map, flatMap}
 use Prim.Native.Nat.{ℕ}
 use lib.IntN.{pos, negsuc}
@@ -12,7 +12,7 @@ use Rattle.boundary.specs.declared.Point.{Point}
 use Rattle.boundary.specs.declared.Bounds.{Bounds}
 use Rattle.boundary.specs.declared.Near.{Near}
 use Rattle.boundary.specs.declared.Distance.{Distance}
-use Rattle.boundary.specs.Boxes.{boxFits, hull, scaleOf, widenedOf}
+use Rattle.boundary.specs.Boxes.{pointInField, boxFits, hull, scaleOf, widenedOf, gapAlong, gapOf}
 use Rattle.lists.specs.Lists.{run, fold, any, oddly, total, atFront, zeros}
 use Rattle.boundary.specs.Outline.{vertices, edges}
 use Rattle.boundary.specs.Length.{edgeLength, lengthOf}
@@ -22,13 +22,14 @@ use Rattle.distance.specs.Nearest.{nearestOf, roundingOf, signedOf}
 use Rattle.pieces.specs.Ellipse.{quadrantNearest, onAxis, longNearest, ellipseNearest, ellipseFoot, ellipseNear}
 use Rattle.accept.specs.declared.Answer.{Answer}
 use Rattle.accept.specs.declared.Answer.the-variants.{Refused, Told, Measure, Away}
-use Rattle.accept.specs.declared.Refusal.the-variants.{ZeroArea}
+use Rattle.accept.specs.declared.Refusal.the-variants.{ZeroArea, BadPoint, ShortBuffer}
+use Rattle.accept.specs.declared.Test.{Test}
 use Rattle.accept.specs.declared.Test.the-variants.{Passed}
 use Rattle.accept.specs.Answers.{away}
 use Rattle.geometry.specs.Answers.{queryTested, areaAnswer, perimeterAnswer, containsAnswer, locateAnswer, distanceAnswer}
 use Rattle.accept.specs.Area.{areaOf}
 use Rattle.geometry.specs.Polygon.{containsOf, crossesOf, locateOf, onEdge}
-use Rattle.accept.specs.Refusals.{_refusing_when_, given, countTested, valuesTested, shapeTested, outlineTested, pointTested}
+use Rattle.accept.specs.Refusals.{_refusing_when_, given, countTested, valuesTested, shapeTested, outlineTested}
 use Rattle.geometry.specs.Making.{closed, keptCount, kept, makeTested, numbers, madeOf, makeOutcome}
 use Rattle.oval.specs.Ellipse.{offsetFits, ellipseFits, ellipseTested, ellipseAnswer}
 use Rattle.clip.specs.Clip.{inside, crosses, partOf, partsOf, parts, lead, lastKept, turned, keptLines, joint, onward, joined, clipOf}
@@ -38,13 +39,16 @@ use Rattle.sorts.specs.Sort.{insert, sort}
 use Rattle.entries.specs.Entries.{boxAt, wideAt}
 use Rattle.splits.specs.Tree.{hullOf, treeOn, indexOf}
 use Rattle.meeting.specs.Meeting.{apart, meetingOf}
-use Rattle.set.specs.Set.{startOf, outlineAt, outlinesOf}
-use Rattle.set.specs.Tests.{outlinesTested, sizesTested, setTested}
+use Rattle.index.specs.Buffer.{IndexBuffer, buffer, shortBuffer}
+use Rattle.set.specs.Set.{Outline, startOf, outlineAt, outlinesOf}
+use Rattle.set.specs.Tests.{listsTested, outlinesTested, setTested, setQueryTested}
+use Rattle.set.specs.Answers.{worked, queryOutcome}
 use Rattle.search.specs.Least.{magnitudeOf, magnitudeAt, leastOf}
 use Rattle.nearest.specs.declared.Nearest.{Nearest}
+use Rattle.nearest.specs.declared.Nearest.the-variants as nearest
 use Rattle.nearest.specs.declared.Nearest.the-variants.{At}
 use Rattle.nearest.specs.Nearest.{nearestIn}
-use Rattle.nearest.specs.Answers.{nearestFor}
+use Rattle.nearest.specs.Answers.{nearestOutcome}
 
 -- whole numbers of µm
 abbrev pub um : ℕ → Float
@@ -96,9 +100,12 @@ both = list (0 ∷ 0 ∷ 4 ∷ 0 ∷ 4 ∷ 4 ∷ 0 ∷ 4 ∷ 10 ∷ 0 ∷ 14 ∷
 abbrev pub fours : List ℕ
 fours = 4 ∷ 4 ∷ []
 
--- what a nearest query answers in working buffers of index size
+-- what a nearest query answers, with an index buffer to work in
+abbrev pub room : IndexBuffer
+room = buffer (zeros (um 0) 2044) (zeros 0 1022) (zeros 0 1024)
+
 abbrev pub nearest-of : List Float → List ℕ → Point → Nearest
-nearest-of v cs p = nearestFor (nearestIn v cs p) (pointTested p (setTested v cs))
+nearest-of v cs p = nearestOutcome v cs p room .answer
 
 -- what a call gives: an answer, a lent list of numbers, a list of items, or the nearest outline
 pub data Given : Type 0 where
@@ -215,30 +222,31 @@ magnitude-right : magnitudeOf S-right (at 7 2) ≡ um 3
 unfolding containsOf crossesOf oddly fold run edges signedOf roundingOf absOf withSign maxOf before signBit isNan add sub mul div neg lt eq ofInt
 magnitude-right = magnitude-of S-right _ nearest-right refl
 
-outlines-of-both : (outlineAt both fours 0 ≡ S) × (outlineAt both fours 1 ≡ S-right)
-unfolding outlineAt startOf
-outlines-of-both = (refl, refl)
+outlines-of-both : outlinesOf both fours ≡ S ∷ S-right ∷ []
+unfolding outlinesOf outlineAt startOf run
+outlines-of-both = refl
 
 least-of-two : (D : ℕ → Float) → D 0 ≡ um 3 → D 1 ≡ um 3 → leastOf D 2 ≡ record { outline = 0; distance = um 3 }
 unfolding leastOf fold run lt ofInt
 least-of-two D e f = rw (e, f)
 
-nearest-both : nearestIn both fours (at 7 2) ≡ At (record { outline = 0; distance = um 3 })
+nearest-both : nearestIn (S ∷ S-right ∷ []) (at 7 2) ≡ At (record { outline = 0; distance = um 3 })
 unfolding nearestIn
-nearest-both =
-    ap At
-    (least-of-two
-    (magnitudeAt both fours (at 7 2))
-    (ap (λ (o : List Float). magnitudeOf o (at 7 2)) (outlines-of-both .0) ∙ magnitude-left)
-    (ap (λ (o : List Float). magnitudeOf o (at 7 2)) (outlines-of-both .1) ∙ magnitude-right))
+nearest-both = ap At (least-of-two (magnitudeAt (S ∷ S-right ∷ []) (at 7 2)) magnitude-left magnitude-right)
 
-both-passes : pointTested (at 7 2) (setTested both fours) ≡ Passed
-unfolding pointTested setTested sizesTested outlinesTested outlinesOf outlineAt startOf any fold run edges areaOf total add sub mul div neg lt le eq ofInt
+both-passes : setTested both fours ≡ Passed
+unfolding setTested listsTested outlinesTested _refusing_when_ outlinesOf outlineAt startOf any fold run edges areaOf total add sub mul div neg lt le eq ofInt
 both-passes = refl
 
+query-passes : setQueryTested both fours (at 7 2) room ≡ Passed
+unfolding setQueryTested _refusing_when_ neg le lt eq ofInt
+query-passes = ap (λ (t : Test). t refusing BadPoint when not (pointInField (at 7 2)) refusing ShortBuffer when shortBuffer room) both-passes
+
 found-both : nearest-of both fours (at 7 2) ≡ At (record { outline = 0; distance = um 3 })
-unfolding nearestFor
-found-both = rw (both-passes, nearest-both)
+unfolding nearestOutcome queryOutcome given
+found-both =
+    ap (λ (t : Test). given t (worked (nearestIn (outlinesOf both fours) (at 7 2)) room) (λ r. record { answer = nearest.Refused r; lent = room }) .answer) query-passes
+    ∙ ap (λ (os : List Outline). nearestIn os (at 7 2)) outlines-of-both ∙ nearest-both
 
 also : {g s : Given} {gs ss : List Given} → g ≡ s → gs ≡ ss → (g ∷ gs) ≡ (s ∷ ss)
 also e es = rw (e, es)
@@ -247,3 +255,8 @@ also e es = rw (e, es)
 pub starred-hold : map (λ (e : Example). e .gives) starred ≡ map (λ (e : Example). e .said) starred
 unfolding starred areaAnswer perimeterAnswer containsAnswer locateAnswer queryTested given _refusing_when_ outlineTested shapeTested countTested valuesTested makeOutcome makeTested madeOf numbers Rattle.geometry.specs.Making.turned kept keptCount closed atFront areaOf containsOf crossesOf locateOf onEdge lengthOf edgeLength ellipseAnswer ellipseTested ellipseFits offsetFits pieceNear ellipseNear ellipseFoot ellipseNearest longNearest quadrantNearest onAxis copysignOf absOf withSign signBit maxOf before hypotOf sqrtOf total any oddly fold run edges vertices add sub mul div neg lt le eq ofInt fillOutcome fillTested boxFits filled longOf fillOf xdyOf clipOf joined onward joint keptLines turned lastKept lead parts partsOf partOf crosses inside Rattle.clip.specs.Clip.at alongOf flatMap ne meetingOf apart indexOf treeOn hullOf hull wideAt boxAt widenedOf scaleOf sort insert isNan
 starred-hold = also (ap finds found-both) (also (ap answers distance-6) (also (ap answers distance-1) (also (ap answers distance-7) refl)))
+
+-- not starred: the gap of the box from (0, 0) to (1, 1) at (4, 5) is 5
+example-gap : gapOf (record { min = at 0 0; max = at 1 1 }) (at 4 5) ≡ um 5
+unfolding gapOf gapAlong maxOf before signBit isNan hypotOf sqrtOf add sub mul lt eq ofInt
+example-gap = refl
