@@ -63,8 +63,12 @@ length-range : {x y : Float} → Bounded 94 x → Bounded 94 y → Ranged zero�
 unfolding neg le fits
 length-range X Y = hypot-range 94 doubled-94 tt X Y tt tt tt tt
 
+-- the distance of p, and the nearest point
+abbrev nearOf : Point → Float → Float → Point → Distance
+nearOf c a b p = record { d = ellipseNear c a b p .d; v = ellipseNear c a b p .q }
+
 module _ {c p : Point} {a b : Float} (Cx : InField (c .x)) (Cy : InField (c .y)) (Px : InField (p .x)) (Py : InField (p .y)) (F : Found (lessPoint p c) (ellipseNearest a b (lessPoint p c))) where
-  near-answer : OvalAnswer c a b p (record { d = ellipseNear c a b p .d; v = ellipseNear c a b p .q })
+  near-answer : OvalAnswer c a b p (nearOf c a b p)
   unfolding ellipseNear
   near-answer =
       let x = moved-range Cx (F .x) in
@@ -91,7 +95,7 @@ pub oval-answer : {c : Point} {a b : Float} {p : Point} {r : Distance} → FitsP
 unfolding ellipseAnswer ellipseFits given pieceNear
 oval-answer {c} {a} {b} {p} {r} C A B P e = go (ellipseTested c a b p) refl e
   where
-    away : T (pointInField p) → T (pointInField c) → T (ellipseFits c a b p) → OvalAnswer c a b p (record { d = ellipseNear c a b p .d; v = ellipseNear c a b p .q })
+    away : T (pointInField p) → T (pointInField c) → T (ellipseFits c a b p) → OvalAnswer c a b p (nearOf c a b p)
     away ps cs t =
         let Px = field-range (P .x) (and-l (inField (p .x)) (inField (p .y)) ps) in
         let Py = field-range (P .y) (and-r (inField (p .x)) (inField (p .y)) ps) in
@@ -105,6 +109,6 @@ oval-answer {c} {a} {b} {p} {r} C A B P e = go (ellipseTested c a b p) refl e
         (offset-of Cx Px (and-l (offsetFits (c .x) (p .x)) (offsetFits (c .y) (p .y)) offs))
         (offset-of Cy Py (and-r (offsetFits (c .x) (p .x)) (offsetFits (c .y) (p .y)) offs)))
 
-    go : (t : Test) → ellipseTested c a b p ≡ t → given t (Away (record { d = ellipseNear c a b p .d; v = ellipseNear c a b p .q })) Refused ≡ Away r → OvalAnswer c a b p r
+    go : (t : Test) → ellipseTested c a b p ≡ t → given t (Away (nearOf c a b p)) Refused ≡ Away r → OvalAnswer c a b p r
     go Passed t e = let f = ellipse-passed c a b p t in subst (OvalAnswer c a b p) (away-same e) (away (f .0) (f .1) (f .2))
     go (Failed n) t e = refused-not-away e

@@ -27,7 +27,8 @@ unfolding ellipseTested
 returns c =
     let d = c .before .before in
     let e = d .before .before in
-    rw (c .refusing3 .ensures, c .before .ellipse-fits .ensures, d .refusing2 .ensures, d .before .point-in-field2 .ensures, e .refusing .ensures, e .before .point-in-field .ensures)
+    rw (c .refusing3 .ensures, c .before .ellipse-fits .ensures, d .refusing2 .ensures, d .before .point-in-field2 .ensures)
+    (rw (e .refusing .ensures, e .before .point-in-field .ensures))
 
 pub ellipse-tested-spec : {M : Type 1} → statement M
 ellipse-tested-spec =
