@@ -7,7 +7,7 @@ ghost use Rattle.lists.specs.Lists.{any, atFront};
 ghost use lib.Ieee.{unlike, lt};
 ghost use Rattle.boundary.specs.Outline.{count, vertexAt, vertices, edges};
 ghost use Rattle.geometry.specs.Polygon.{crossesOf, containsOf, between, turnOf, onEdge, locateOf, boundsOf};
-ghost use Rattle.geometry.specs.Answers.{areaAnswer, perimeterAnswer, boundsAnswer, queryTested, containsAnswer, locateAnswer, distanceAnswer};
+ghost use Rattle.geometry.specs.Answers.{areaAnswer, perimeterAnswer, boundsAnswer, containsAnswer, locateAnswer, distanceAnswer};
 ghost use Rattle.geometry.specs.Making.{keptCount, turned, numbers, makeOutcome};
 use accept::Answer;
 use accept::Refusal;
@@ -142,18 +142,11 @@ pub fn bounds(v: &[f64]) -> Answer
     }
 }
 
-// The tests of a query at a point.
-fn query_tested(v: &[f64], p: Point) -> Test
-    ensures { λ r. ⌜ r ≡ queryTested (now (v .entry)) p ⌝ }
-{
-    let t = refusals::outline_tested(v);
-    refusals::refusing(t, Refusal::BadPoint, !refusals::point_in_field(p))
-}
-
 pub fn contains(v: &[f64], p: Point) -> Answer
     ensures { λ r. ⌜ r ≡ containsAnswer (now (v .entry)) p ⌝ }
 {
-    match query_tested(v, p) {
+    let t = refusals::outline_tested(v);
+    match refusals::refusing(t, Refusal::BadPoint, !refusals::point_in_field(p)) {
         Test::Passed => Answer::Told(if holds(v, p) { 1 } else { 0 }),
         Test::Failed(r) => Answer::Refused(r),
     }
@@ -162,7 +155,8 @@ pub fn contains(v: &[f64], p: Point) -> Answer
 pub fn locate(v: &[f64], p: Point) -> Answer
     ensures { λ r. ⌜ r ≡ locateAnswer (now (v .entry)) p ⌝ }
 {
-    match query_tested(v, p) {
+    let t = refusals::outline_tested(v);
+    match refusals::refusing(t, Refusal::BadPoint, !refusals::point_in_field(p)) {
         Test::Passed => Answer::Told(location(v, p)),
         Test::Failed(r) => Answer::Refused(r),
     }
@@ -173,7 +167,8 @@ pub fn locate(v: &[f64], p: Point) -> Answer
 pub fn distance(v: &[f64], p: Point) -> Answer
     ensures { λ r. ⌜ r ≡ distanceAnswer (now (v .entry)) p ⌝ }
 {
-    match query_tested(v, p) {
+    let t = refusals::outline_tested(v);
+    match refusals::refusing(t, Refusal::BadPoint, !refusals::point_in_field(p)) {
         Test::Passed => {
             let edge = distance::nearest::nearest_edge(v, p);
             let inside = holds(v, p);

@@ -1,12 +1,18 @@
 -- `geometry::polygon::locate` meets its contract. Assumes nothing.
 use borrow.Author.Needs.{needs}
 use Rattle.accept.specs.Refusals.{given}
-use Rattle.geometry.specs.Answers.{locateAnswer}
+use Rattle.geometry.specs.Answers.{queryTested, locateAnswer}
 use Rattle.geometry.proofs.polygon.locate.Statement.{statement}
 use Rattle.geometry.proofs.polygon.locate.Tie as tie
 
-query-tested-requires : tie.Need-query-tested-requires
-query-tested-requires c κs = search needs
+outline-tested-requires : tie.Need-outline-tested-requires
+outline-tested-requires c κs = search needs
+
+point-in-field-requires : tie.Need-point-in-field-requires
+point-in-field-requires c κs = search needs
+
+refusing-requires : tie.Need-refusing-requires
+refusing-requires c κs = search needs
 
 enum-told : tie.Need-enum-told
 enum-told c = search needs
@@ -18,16 +24,16 @@ enum-known-r : tie.Need-enum-known-r
 enum-known-r c = search needs
 
 returns : tie.Need-returns
-unfolding locateAnswer given
+unfolding locateAnswer queryTested given
 returns c =
     let d = c .before .before .before in
-    rw (← d .query-tested .ensures, c .before .enum-told .given .1, c .location .ensures)
+    rw (← d .before .before .outline-tested .ensures, ← d .before .point-in-field .ensures, ← d .refusing .ensures, c .before .enum-told .given .1, c .location .ensures)
 
 returns-2 : tie.Need-returns-2
-unfolding locateAnswer given
+unfolding locateAnswer queryTested given
 returns-2 c =
     let d = c .before .before .before in
-    rw (← d .query-tested .ensures, c .before .r .given .1)
+    rw (← d .before .before .outline-tested .ensures, ← d .before .point-in-field .ensures, ← d .refusing .ensures, c .before .r .given .1)
 
 pub locate-spec : {M : Type 1} → statement M
-locate-spec = tie.close (tie.spec query-tested-requires enum-told location-requires enum-known-r returns returns-2)
+locate-spec = tie.close (tie.spec outline-tested-requires point-in-field-requires refusing-requires enum-told location-requires enum-known-r returns returns-2)
