@@ -4,5 +4,5 @@
 pub mod Meeting
 -- The walk of the index buffer.
 pub mod Walk
--- The tests, and what the call answers.
+-- The tests, and all that the call leaves.
 pub mod Answers

@@ -24,7 +24,7 @@ use Rattle.entries.specs.Entries.{boxCount}
 use Rattle.splits.specs.Tree.{Tree, indexOf, itemsOf}
 use Rattle.nodes.specs.Layout.{nodeOf, nodesOf, cornersOf, linksOf}
 use Rattle.index.specs.declared.BuildFields.{BuildFields}
-use Rattle.index.specs.Buffer.{IndexBuffer, buffer, shortSizes, holding, grown}
+use Rattle.index.specs.Buffer.{IndexBuffer, shortSizes, holding, grown}
 use Rattle.index.specs.Answers.{boxesTested}
 use Rattle.index.proofs.GrowLaws.{boxes-passed, index-nodes, length-index-items, grown-nodes, grown-lent}
 use Rattle.index.proofs.ReadLaws.{NodeIs, node-is}

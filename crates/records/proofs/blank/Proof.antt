@@ -2,7 +2,6 @@
 use Rattle.records.specs.Records.{blankNodes}
 use mathlib.Core.Path.{refl}
 use lib.Ieee.{ofBits}
-use borrow.Author.Needs.{needs}
 use Rattle.records.proofs.blank.Statement.{statement}
 use Rattle.records.proofs.blank.Tie as tie
 
