@@ -5,7 +5,7 @@ ghost use lib.ListN.{length};
 ghost use Rattle.lists.specs.Lists.{any};
 ghost use Rattle.index.specs.Buffer.{buffer};
 ghost use Rattle.set.specs.Set.{startOf, outlinesOf};
-ghost use Rattle.set.specs.Answers.{worked, Ready, Starts};
+ghost use Rattle.set.specs.Answers.{worked, Ready, Space, Starts};
 ghost use Rattle.any.specs.Answers.{containsIn, anyAt, anyOutcome};
 use accept::Answer;
 use accept::Test;
@@ -52,7 +52,7 @@ fn any_in(
     items: &mut [u32],
 ) -> bool
     requires { ⌜ Ready (now v) (now counts) (buffer (now corners) (now links) (now items))
-        × (4 * length (now counts) ≤ length (now boxes)) × (length (now counts) ≤ length (now starts)) × (length (now list) ≡ 1024) ⌝ }
+        × Space (now counts) (now boxes) (now starts) × (length (now list) ≡ 1024) ⌝ }
     ensures { λ r. ⌜ record { answer = r; lent = buffer (now (corners .exit)) (now (links .exit)) (now (items .exit)) }
         ≡ worked (anyAt (outlinesOf (now (v .entry)) (now (counts .entry))) p) (buffer (now (corners .entry)) (now (links .entry)) (now (items .entry))) ⌝ }
 {

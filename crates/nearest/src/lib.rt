@@ -8,7 +8,7 @@ ghost use lib.ListN.{length};
 ghost use Rattle.boundary.specs.Boxes.{pointInField};
 ghost use Rattle.index.specs.Buffer.{buffer};
 ghost use Rattle.set.specs.Set.{outlinesOf};
-ghost use Rattle.set.specs.Answers.{Ready, worked};
+ghost use Rattle.set.specs.Answers.{worked, Ready, Space};
 ghost use Rattle.search.specs.Least.{leastIn};
 ghost use Rattle.nearest.specs.Nearest.{nearestIn};
 ghost use Rattle.nearest.specs.Answers.{nearestOutcome};
@@ -47,7 +47,7 @@ fn found_in(
     items: &mut [u32],
 ) -> Best
     requires { ⌜ Ready (now v) (now counts) (buffer (now corners) (now links) (now items)) × (pointInField p ≡ true)
-        × (0 < length (now counts)) × (4 * length (now counts) ≤ length (now boxes)) × (length (now counts) ≤ length (now starts)) ⌝ }
+        × (0 < length (now counts)) × Space (now counts) (now boxes) (now starts) ⌝ }
     ensures { λ r. ⌜ record { answer = r; lent = buffer (now (corners .exit)) (now (links .exit)) (now (items .exit)) }
         ≡ worked (leastIn (outlinesOf (now (v .entry)) (now (counts .entry))) p) (buffer (now (corners .entry)) (now (links .entry)) (now (items .entry))) ⌝ }
 {

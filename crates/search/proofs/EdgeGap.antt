@@ -1,5 +1,5 @@
 -- The gap of a box that has the nearest point of an edge is at most the edge's distance: a corner of the box is an `f64`, and may be infinite. Assumes nothing.
-use mathlib.Core.Bool.{not, true, false}
+use mathlib.Core.Bool.{true, false}
 use lib.Dec.{T}
 use lib.Ieee.{Float, nan, inf, fin, binary64, add, sub, neg, lt, le, eq, isNan, fits}
 use lib.Ieee.Scale.{finite}

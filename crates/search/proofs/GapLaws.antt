@@ -19,7 +19,7 @@ use Rattle.lists.proofs.MemberLaws.{times-append}
 use Rattle.entries.specs.Entries.{boxCount, wideAt, centreOf}
 use Rattle.lists.proofs.RunLaws.{length-run}
 use Rattle.splits.specs.Tree.{Tree, leaf, inner, hullOf, treeOf, indexOf, itemsOf, EachNode}
-use Rattle.nodes.specs.Layout.{extra, nodesOf}
+use Rattle.nodes.specs.Layout.{nodesOf}
 use Rattle.nodes.proofs.LayoutLaws.{length-below}
 use Rattle.nodes.proofs.TreeLaws.{left, right, length-left, length-right, times-halves, tree-induct}
 use Rattle.index.specs.Buffer.{IndexBuffer, Stands}

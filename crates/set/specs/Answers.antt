@@ -1,7 +1,7 @@
 -- What the work of a query over a set needs, and what the query leaves. Definitions only.
 use mathlib.Core.Path.{_≡_}
 use mathlib.Core.List.{List}
-use Prim.Native.Nat.{ℕ, _≤_, _<_}
+use Prim.Native.Nat.{ℕ, _*_, _≤_, _<_}
 use lib.ListN.{length, getD}
 use lib.Ieee.{Float}
 use Rattle.boundary.specs.declared.Point.{Point}
@@ -12,12 +12,12 @@ use Rattle.index.specs.Buffer.{IndexBuffer, cleared}
 use Rattle.set.specs.Set.{startOf, outlinesOf, Fit, Fitting}
 use Rattle.set.specs.Tests.{setQueryTested}
 
--- ---- a query with the index buffer B to work in
--- work is done: its answer, and the buffer cleared
+-- ---- all that a query leaves, with the index buffer B to work in
+-- work that is done: its answer, and the buffer cleared
 abbrev pub worked : {A : Type 0} → A → IndexBuffer → Outcome A IndexBuffer
 worked a B = record { answer = a; lent = cleared B }
 
--- a, or the refusal, and the buffer as it was
+-- a query that answers a: where the tests are not passed, the refusal, and the buffer as it was
 unfoldable pub queryOutcome : {A : Type 0} → List Float → List ℕ → Point → IndexBuffer → A → (Refusal → A) → Outcome A IndexBuffer
 queryOutcome v cs p B a refused = given (setQueryTested v cs p B) (worked a B) (λ r. record { answer = refused r; lent = B })
 
@@ -29,6 +29,10 @@ pub record Ready (v : List Float) (cs : List ℕ) (B : IndexBuffer) : Type 0 whe
   pub corners : 2044 ≤ length (B .corners)
   pub links : 1022 ≤ length (B .links)
   pub items : 1024 ≤ length (B .items)
+
+-- lists long enough for the outlines' boxes and for their starts
+abbrev pub Space : List ℕ → List Float → List ℕ → Type 0
+Space cs X S = (4 * length cs ≤ length X) × (length cs ≤ length S)
 
 -- S holds how many vertices stand before each outline
 pub record Starts (cs S : List ℕ) : Type 0 where

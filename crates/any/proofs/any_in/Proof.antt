@@ -32,7 +32,7 @@ listed-requires c κs =
     let s = x .before .before .before .before .before .before .before .before .before .before in
     let a = s .args in
     let B = buffer (a .corners .now) (a .links .now) (a .items .now) in
-    let r = ready-listed (a .v .now) (a .counts .now) (a .p) B (s .pre .0) (a .boxes .now) _ (s .pre .1) (x .put-boxes .ensures) in
+    let r = ready-listed (a .v .now) (a .counts .now) (a .p) B (s .pre .0) (a .boxes .now) _ (s .pre .1 .0) (x .put-boxes .ensures) in
     (r .0, r .1, search needs)
 
 sub-any-holds : tie.Need-sub-any-holds
@@ -48,8 +48,8 @@ part-any-holds-end c =
     let s = x .before .before .before .before .before .before .before .before .before .before in
     let a = s .args in
     let B = buffer (a .corners .now) (a .links .now) (a .items .now) in
-    let n = listed-count (a .v .now) (a .counts .now) (a .p) B (s .pre .0) (a .boxes .now) _ (s .pre .1) (x .put-boxes .ensures) _ _ _ _ (l .listed .ensures) in
-    let k = s .pre .3 in
+    let n = listed-count (a .v .now) (a .counts .now) (a .p) B (s .pre .0) (a .boxes .now) _ (s .pre .1 .0) (x .put-boxes .ensures) _ _ _ _ (l .listed .ensures) in
+    let k = s .pre .2 in
     search needs
 
 any-holds-requires : tie.Need-any-holds-requires
@@ -60,7 +60,7 @@ any-holds-requires c κs =
     let a = s .args in
     let f = s .pre .0 .fit in
     let n = f .size in
-    let l = s .pre .2 in
+    let l = s .pre .1 .1 in
     (fit-within (a .v .now) (a .counts .now) f, starts-put (a .counts .now) (a .starts .now) _ (omega arith) (t .put-starts .ensures))
 
 same-length : tie.Need-same-length
@@ -88,7 +88,7 @@ returns c =
     let s = x .before .before .before .before .before .before .before .before .before .before in
     let a = s .args in
     let B = buffer (a .corners .now) (a .links .now) (a .items .now) in
-    let answered = answered-of (a .v .now) (a .counts .now) (a .p) B (s .pre .0) (a .boxes .now) _ (s .pre .1) (x .put-boxes .ensures) _ _ _ _ (l .listed .ensures) in
+    let answered = answered-of (a .v .now) (a .counts .now) (a .p) B (s .pre .0) (a .boxes .now) _ (s .pre .1 .0) (x .put-boxes .ensures) _ _ _ _ (l .listed .ensures) in
     answered _ (c .any-holds .ensures)
 
 pub any-in-spec : {M : Type 1} → statement M

@@ -47,10 +47,10 @@ search-requires c κs =
     let cs = a .counts .now in
     let B = buffer (a .corners .now) (a .links .now) (a .items .now) in
     let n = r .fit .size in
-    let l = s .pre .4 in
+    let l = s .pre .3 .1 in
     let starts = starts-put cs (a .starts .now) _ (omega arith) (t .put-starts .ensures) in
     let held = doubles-outlines v cs (r .fit) (h .all-held .ensures) in
-    let X = searched-of v cs B r (a .boxes .now) _ (s .pre .3) (x .put-boxes .ensures) _ _ (g .grow .ensures) (s .pre .2) (h .all-held .ensures) in
+    let X = searched-of v cs B r (a .boxes .now) _ (s .pre .3 .0) (x .put-boxes .ensures) _ _ (g .grow .ensures) (s .pre .2) (h .all-held .ensures) in
     (record { within = fit-within v cs (r .fit); starts = starts; fitting = r .fitting; held = held; point = s .pre .1 }, X, s .pre .2)
 
 clear-requires : tie.Need-clear-requires
@@ -93,7 +93,7 @@ returns c =
     let s = x .before .before .before .before .before .before .before .before .before .before in
     let a = s .args in
     let B = buffer (a .corners .now) (a .links .now) (a .items .now) in
-    let e = cleared-of (a .v .now) (a .counts .now) B (s .pre .0) (a .boxes .now) _ (s .pre .3) (x .put-boxes .ensures) _ _ (g .grow .ensures) in
+    let e = cleared-of (a .v .now) (a .counts .now) B (s .pre .0) (a .boxes .now) _ (s .pre .3 .0) (x .put-boxes .ensures) _ _ (g .grow .ensures) in
     ap₂ (λ (r : Best) (B : IndexBuffer). record { answer = r; lent = B }) (b .search .ensures) (z .clear .ensures ∙ e)
 
 pub found-in-spec : {M : Type 1} → statement M
