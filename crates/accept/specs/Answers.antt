@@ -11,8 +11,6 @@ use Rattle.accept.specs.declared.CountFields.{CountFields}
 use Rattle.accept.specs.declared.DistanceFields.{DistanceFields}
 use Rattle.accept.specs.declared.MeasureFields.{MeasureFields}
 use Rattle.accept.specs.declared.Refusal.{Refusal}
-use Rattle.accept.specs.declared.Test.{Test}
-use Rattle.accept.specs.declared.Test.the-variants.{Passed, Failed}
 use Rattle.accept.specs.Refusals.{number}
 
 -- ---- the fields of an answer: what the call returns, and what it puts into the fields that it is lent. A refusal gives its number, and zeros;

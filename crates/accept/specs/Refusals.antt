@@ -8,8 +8,7 @@ use lib.Ieee.{Float, neg, lt, le, eq}
 use lib.Ieee.Scale.{finite}
 use Rattle.number.specs.Exact.{zeroᶠ}
 use Rattle.boundary.specs.declared.Point.{Point}
-use Rattle.boundary.specs.declared.Bounds.{Bounds}
-use Rattle.boundary.specs.Boxes.{inField, pointInField, boxFits}
+use Rattle.boundary.specs.Boxes.{inField}
 use Rattle.lists.specs.Lists.{any}
 use Rattle.boundary.specs.Outline.{count, edges}
 use Rattle.accept.specs.declared.Refusal.{Refusal}

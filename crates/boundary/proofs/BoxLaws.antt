@@ -8,7 +8,7 @@ use native.Mathlib.Omega.{arith}
 use lib.Dec.{T, lit≤}
 use lib.IntN.{ℤ, pos, negℤ, _+ℤ_, _-ℤ_, _*ℤ_}
 use lib.Pow.{pow-pos}
-use lib.Ieee.{Float, fin, ofBits, binary64, add, sub, mul, neg, lt, le, eq, isNan, fits}
+use lib.Ieee.{Float, ofBits, binary64, add, sub, mul, neg, lt, le, eq, isNan, fits}
 use lib.Ieee.Fits.{mul-fits}
 use Rattle.algebra.specs.Quote.{quote}
 use Rattle.algebra.specs.Lin as Lin

@@ -1,6 +1,6 @@
 -- `Piece::nearest` of a line (document 01, boundary.rs). Definitions only.
 use mathlib.Core.Bool.{false, cond}
-use lib.IntN.{pos, negsuc}
+use lib.IntN.{negsuc}
 use lib.Ieee.{Float, fin, binary64, add, sub, mul, div, neg, lt, eq}
 use Rattle.number.specs.Exact.{zeroᶠ, one}
 use Rattle.number.specs.Root.{sqrtOf}

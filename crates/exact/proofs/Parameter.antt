@@ -17,7 +17,7 @@ use Rattle.signs.specs.Signs.{clampOf}
 use Rattle.number.proofs.Operations.{equation→is, zero-is}
 use Rattle.number.proofs.OrderLaws.{clamp-is}
 use Rattle.number.proofs.RoundingLaws.{rounded-within, rounded-relative, rounded-nonneg, rounded-nonpos}
-use Rattle.number.proofs.Compare.{lt-is, is-lt, not-lt}
+use Rattle.number.proofs.Compare.{is-lt, not-lt}
 use Rattle.grid.proofs.Standing.{Stands, reach}
 use Rattle.grid.specs.Distance.Stand.{before, beside, past}
 use Rattle.grid.specs.Distance.{Stand}

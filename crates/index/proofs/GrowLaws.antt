@@ -7,7 +7,7 @@ use native.Mathlib.Nat.{sub-zero}
 use native.Mathlib.Omega.{arith}
 use lib.Dec.{leb, eqb, ltb}
 use lib.ListN.{length, take, drop, length-replicate}
-use lib.Seq.{length-take-le, take-at, drop-at, drop-append-add, drop-drop, sets}
+use lib.Seq.{length-take-le, take-at, drop-at, sets}
 use lib.Ieee.{Float}
 use borrow.Author.Tests.{le-leb, ltb-false, eqb-true}
 use Rattle.boundary.specs.declared.Bounds.{Bounds}

@@ -1,15 +1,14 @@
 -- The box around items' boxes is around each of them, is in every box that is around all of them, and is finite where they are; widened boxes of the field have no NaN. Assumes nothing.
-use mathlib.Core.Path.{_≡_, refl, subst}
-use mathlib.Core.Bool.{Bool, true, false, cond}
+use mathlib.Core.Path.{_≡_, refl}
+use mathlib.Core.Bool.{true, false}
 use mathlib.Core.List.{List, [], _∷_}
-use Prim.Native.Nat.{ℕ, _+_, _<_}
+use Prim.Native.Nat.{ℕ, _<_}
 use native.Mathlib.Omega.{arith}
-use lib.Dec.{T, leb, eqb}
+use lib.Dec.{T, leb}
 use lib.ListN.{length}
 use lib.Ieee.{Float, nan, inf, fin, binary64, mul, neg, lt, le}
 use lib.Ieee.Fits.{and-l, and-r}
 use lib.Ieee.Scale.{finite}
-use borrow.Author.Tests.{eq-eqb, eqb-true}
 use Rattle.signs.specs.Signs.{absOf, maxOf}
 use Rattle.number.proofs.OrderLaws.{finite-between, max-one-of}
 use Rattle.number.proofs.Values.{add-not-nan, sub-not-nan, mul-not-nan, abs-finite}

@@ -16,7 +16,7 @@ use Rattle.nodes.specs.declared.Node.{Node}
 use Rattle.entries.specs.Entries.{boxAt}
 use Rattle.splits.specs.Tree.{Tree, leaf, inner, hullOf, treeOf, itemsOf}
 use Rattle.nodes.specs.Layout.{extra, nodeOf, below, nodesOf, cornersOf, linksOf, itemAt, firstAt, countAt}
-use Rattle.index.specs.Buffer.{IndexBuffer, buffer, holding, Stands, levels, Filled}
+use Rattle.index.specs.Buffer.{IndexBuffer, holding, Stands, levels, Filled}
 use Rattle.lists.proofs.StoreLaws.{flat-at}
 use Rattle.lists.proofs.RunLaws.{length-run, run-at}
 use Rattle.nodes.proofs.TreeLaws.{left, right, length-left, length-right, tree-induct}

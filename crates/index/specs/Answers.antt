@@ -1,15 +1,13 @@
 -- The tests of a box list, in document 01's order, and all that building leaves. Definitions only.
 use mathlib.Core.Path.{_≡_}
-use mathlib.Core.Bool.{Bool, not}
-use mathlib.Core.List.{List, flatMap}
+use mathlib.Core.Bool.{not}
+use mathlib.Core.List.{List}
 use Prim.Native.Nat.{ℕ, _%_, _*_, _≤_}
 use lib.Dec.{eqb, ltb}
 use lib.ListN.{length}
 use lib.Ieee.{Float}
-use Rattle.number.specs.Exact.{zeroᶠ}
 use Rattle.boundary.specs.Boxes.{boxFits}
-use Rattle.lists.specs.Lists.{any, atFront, zeros}
-use Rattle.accept.specs.declared.Refusal.{Refusal}
+use Rattle.lists.specs.Lists.{any, zeros}
 use Rattle.accept.specs.declared.Refusal.the-variants.{TooMany, BadBox, ShortBuffer}
 use Rattle.accept.specs.declared.Test.{Test}
 use Rattle.accept.specs.declared.Test.the-variants.{Passed}
@@ -18,10 +16,10 @@ use Rattle.accept.specs.Refusals.{number, given, _refusing_when_}
 use Rattle.index.specs.declared.Built.{Built}
 use Rattle.index.specs.declared.Built.the-variants.{Refused, Sized}
 use Rattle.index.specs.declared.BuildFields.{BuildFields}
-use Rattle.index.specs.Buffer.{IndexBuffer, shortSizes, shortBuffer, holding}
+use Rattle.index.specs.Buffer.{IndexBuffer, shortBuffer, holding}
 use Rattle.entries.specs.Entries.{boxesOf}
-use Rattle.splits.specs.Tree.{Tree, indexOf, itemsOf}
-use Rattle.nodes.specs.Layout.{nodesOf, cornersOf, linksOf}
+use Rattle.splits.specs.Tree.{indexOf, itemsOf}
+use Rattle.nodes.specs.Layout.{nodesOf}
 
 -- ---- tests 4 and 11
 unfoldable pub boxesTested : List Float → Test

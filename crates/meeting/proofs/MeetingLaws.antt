@@ -14,7 +14,6 @@ use Rattle.boundary.specs.declared.Bounds.{Bounds}
 use Rattle.boundary.specs.Boxes.{Around}
 use Rattle.boundary.specs.Boxes.{boxFits}
 use Rattle.accept.specs.Answers.{Outcome}
-use Rattle.accept.specs.declared.Answer.{Answer}
 use Rattle.lists.specs.Lists.{atFront}
 use Rattle.accept.specs.Refusals.{_refusing_when_}
 use Rattle.accept.specs.declared.Answer.the-variants.{Refused, Told}

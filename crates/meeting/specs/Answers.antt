@@ -1,5 +1,4 @@
 -- The tests of `meeting`, in document 01's order, and all that the call leaves. Definitions only.
-use mathlib.Core.Path.{_≡_}
 use mathlib.Core.Bool.{not}
 use mathlib.Core.List.{List}
 use Prim.Native.Nat.{ℕ}

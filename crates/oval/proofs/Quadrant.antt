@@ -1,5 +1,4 @@
 -- The nearest point in the first quadrant, where a ≥ b: every step stays in a range, so no divisor is zero and nothing overflows. Assumes nothing.
-use mathlib.Core.Path.{refl}
 use mathlib.Core.Logic.{_⊎_, inl, inr}
 use mathlib.Core.Bool.{Bool, true, false, cond, _||_}
 use Prim.Native.Nat.{ℕ, zero, suc, _-_, _^_}

@@ -1,6 +1,6 @@
 -- Floats from one number to another: the range of each operation's result, from the ranges of its parts. Assumes nothing.
 -- Every law asks for tests of the ends. Where the ends are numbers, the tests compute, and `tt` passes them.
-use mathlib.Core.Path.{_≡_, refl, sym, subst}
+use mathlib.Core.Path.{refl, sym, subst}
 use mathlib.Core.Logic.{⊎-elim}
 use mathlib.Core.Bool.{Bool, true, false, _&&_, _||_, cond}
 use Prim.Native.Nat.{ℕ, suc}
@@ -15,7 +15,7 @@ use Rattle.number.specs.Exact.{Is, Held, zeroᶠ, one}
 use Rattle.number.specs.Root.{sqrtOf}
 use Rattle.number.specs.Hypot.{hypotOf}
 use Rattle.signs.specs.Signs.{signBit, absOf, copysignOf, maxOf}
-use Rattle.number.proofs.Basics.{or-l, or-r, or-split}
+use Rattle.number.proofs.Basics.{or-split}
 use Rattle.number.proofs.Operations.{zero-is, finite-is, equation→is}
 use Rattle.number.proofs.Compare.{eq→, le-neg}
 use Rattle.signs.proofs.SignLaws.{copysign-negates, abs-negates}

@@ -10,7 +10,7 @@ use borrow.Author.Tests.{eqb-true, eqb-false, ltb-false}
 use lib.Dec.{T, eqb}
 use lib.IntN.{ℤ, pos, negsuc}
 use lib.ListN.{length, getD}
-use lib.Ieee.{Float, nan, inf, fin, up, down, binary64, sub, neg, lt, le, fits}
+use lib.Ieee.{Float, nan, inf, fin, up, down, binary64, sub, lt, le, fits}
 use lib.Ieee.Bits.{is-true}
 use lib.Ieee.Fits.{up-pos}
 use lib.Pow.{pow-pos}

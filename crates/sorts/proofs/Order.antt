@@ -2,12 +2,12 @@
 use mathlib.Core.Path.{_≡_, refl, sym, subst, _∙_}
 use mathlib.Core.Bool.{Bool, true, false, not, _&&_, _||_, cond, false≢true, true≢false}
 use mathlib.Core.Logic.{_⊎_, inl, inr}
-use Prim.Native.Nat.{ℕ, _*_, _≤_, _<_, zero-le}
+use Prim.Native.Nat.{ℕ, _≤_, _<_, zero-le}
 use native.Mathlib.Omega.{arith}
 use lib.Dec.{T, leb}
-use lib.Ieee.{Float, nan, inf, fin, up, down, lt, eq, le, isNan}
+use lib.Ieee.{Float, nan, inf, fin, lt, eq, le, isNan}
 use lib.Ieee.Bits.{is-true}
-use borrow.Author.Tests.{le-leb, leb-true, leb-false, ltb-true}
+use borrow.Author.Tests.{le-leb, leb-true, leb-false}
 use Rattle.number.specs.Exact.{zeroᶠ}
 use Rattle.signs.specs.Signs.{signBit}
 use Rattle.number.proofs.OrderLaws.{le-not-below, le-through, not-below, below-le, level-le, below-through, above-sign, under-sign}

@@ -1,11 +1,11 @@
 -- What sorting keeps: the length, and how often each number occurs. Assumes nothing.
 use mathlib.Core.Path.{_≡_, refl, ap, _∙_}
 use mathlib.Core.Bool.{Bool, true, false, cond}
-use mathlib.Core.List.{List, [], _∷_, _++_}
+use mathlib.Core.List.{List, [], _∷_}
 use Prim.Native.Nat.{ℕ, suc, _+_}
 use native.Mathlib.Omega.{arith}
 use lib.Dec.{leb, eqb}
-use lib.ListN.{length, take, drop, take-append-drop}
+use lib.ListN.{length}
 use Rattle.lists.specs.Lists.{times}
 use Rattle.sorts.specs.Sort.{insert, sort}
 use Rattle.sorts.specs.Keys.{totalLess, goesBy, goes, keyIn}

@@ -2,7 +2,7 @@
 ghost use mathlib.Core.Path.{_≡_};
 ghost use mathlib.Core.List.{_++_};
 ghost use Prim.Native.Nat.{_+_, _≤_};
-ghost use lib.ListN.{length, getD, set, take, drop};
+ghost use lib.ListN.{length, take, drop};
 ghost use Rattle.sorts.specs.Sort.{sort, merge, fromFirst, keep, others, Dealt};
 ghost use Rattle.sorts.specs.Keys.{totalLess, goesBy, goes, ahead, aheadBit, keyIn};
 

@@ -5,7 +5,6 @@ use Rattle.accept.specs.Answers.{Outcome, inFields}
 use Rattle.index.specs.Buffer.{IndexBuffer}
 use Rattle.search.specs.declared.Best.{Best}
 use Rattle.set.proofs.SetLaws.{outlines-length}
-use Rattle.nearest.specs.declared.Nearest.{Nearest}
 use Rattle.nearest.specs.declared.Nearest.the-variants.{None, At}
 use Rattle.nearest.specs.Nearest.{nearestIn}
 use borrow.Author.Needs.{needs}

@@ -1,7 +1,7 @@
 -- `boundary::line::foot` meets its contract: its branches are the choices of `paramOf` and `alongOf`. Assumes nothing.
 use mathlib.Core.Path.{_≡_, sym, _∙_}
 use mathlib.Core.Logic.{⊎-elim}
-use mathlib.Core.Bool.{Bool, true, false}
+use mathlib.Core.Bool.{true, false}
 use borrow.Author.Needs.{needs}
 use lib.Ieee.{Float, binary64, ofBits, add, sub, mul, div, lt, eq}
 use Rattle.number.specs.Exact.{zeroᶠ, one}
