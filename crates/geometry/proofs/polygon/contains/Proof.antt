@@ -27,19 +27,22 @@ returns : tie.Need-returns
 unfolding containsAnswer queryTested given
 returns c =
     let d = c .before .before .before .before in
-    rw (← d .before .before .outline-tested .ensures, ← d .before .point-in-field .ensures, ← d .refusing .ensures, c .before .before .enum-told .given .1, ← c .before .holds .ensures, c .if1 .taken)
+    rw (← d .before .before .outline-tested .ensures, ← d .before .point-in-field .ensures, ← d .refusing .ensures)
+    (rw (c .before .before .enum-told .given .1, ← c .before .holds .ensures, c .if1 .taken))
 
 returns-2 : tie.Need-returns-2
 unfolding containsAnswer queryTested given
 returns-2 c =
     let d = c .before .before .before .before in
-    rw (← d .before .before .outline-tested .ensures, ← d .before .point-in-field .ensures, ← d .refusing .ensures, c .before .before .enum-told .given .1, ← c .before .holds .ensures, c .if1 .left)
+    rw (← d .before .before .outline-tested .ensures, ← d .before .point-in-field .ensures, ← d .refusing .ensures)
+    (rw (c .before .before .enum-told .given .1, ← c .before .holds .ensures, c .if1 .left))
 
 returns-3 : tie.Need-returns-3
 unfolding containsAnswer queryTested given
 returns-3 c =
     let d = c .before .before .before in
-    rw (← d .before .before .outline-tested .ensures, ← d .before .point-in-field .ensures, ← d .refusing .ensures, c .before .r .given .1)
+    rw (← d .before .before .outline-tested .ensures, ← d .before .point-in-field .ensures, ← d .refusing .ensures)
+    (rw (c .before .r .given .1))
 
 pub contains-spec : {M : Type 1} → statement M
 contains-spec = tie.close (tie.spec outline-tested-requires point-in-field-requires refusing-requires enum-told holds-requires enum-known-r returns returns-2 returns-3)

@@ -41,13 +41,15 @@ unfolding distanceAnswer queryTested given
 returns c =
     let d = c .before .before .before in
     let e = d .before .before in
-    rw (← e .before .before .outline-tested .ensures, ← e .before .point-in-field .ensures, ← e .refusing .ensures, d .enum-told .given .1, c .distance .ensures, c .before .holds .ensures)
+    rw (← e .before .before .outline-tested .ensures, ← e .before .point-in-field .ensures, ← e .refusing .ensures)
+    (rw (d .enum-told .given .1, c .distance .ensures, c .before .holds .ensures))
 
 returns-2 : tie.Need-returns-2
 unfolding distanceAnswer queryTested given
 returns-2 c =
     let d = c .before .before .before in
-    rw (← d .before .before .outline-tested .ensures, ← d .before .point-in-field .ensures, ← d .refusing .ensures, c .before .r .given .1)
+    rw (← d .before .before .outline-tested .ensures, ← d .before .point-in-field .ensures, ← d .refusing .ensures)
+    (rw (c .before .r .given .1))
 
 pub distance-spec : {M : Type 1} → statement M
 distance-spec = tie.close (tie.spec outline-tested-requires point-in-field-requires refusing-requires enum-told nearest-edge-requires holds-requires distance-requires enum-known-r returns returns-2)

@@ -27,13 +27,15 @@ returns : tie.Need-returns
 unfolding locateAnswer queryTested given
 returns c =
     let d = c .before .before .before in
-    rw (← d .before .before .outline-tested .ensures, ← d .before .point-in-field .ensures, ← d .refusing .ensures, c .before .enum-told .given .1, c .location .ensures)
+    rw (← d .before .before .outline-tested .ensures, ← d .before .point-in-field .ensures, ← d .refusing .ensures)
+    (rw (c .before .enum-told .given .1, c .location .ensures))
 
 returns-2 : tie.Need-returns-2
 unfolding locateAnswer queryTested given
 returns-2 c =
     let d = c .before .before .before in
-    rw (← d .before .before .outline-tested .ensures, ← d .before .point-in-field .ensures, ← d .refusing .ensures, c .before .r .given .1)
+    rw (← d .before .before .outline-tested .ensures, ← d .before .point-in-field .ensures, ← d .refusing .ensures)
+    (rw (c .before .r .given .1))
 
 pub locate-spec : {M : Type 1} → statement M
 locate-spec = tie.close (tie.spec outline-tested-requires point-in-field-requires refusing-requires enum-told location-requires enum-known-r returns returns-2)
