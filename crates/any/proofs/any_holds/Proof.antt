@@ -14,7 +14,8 @@ use Rattle.any.proofs.any_holds.Statement.{statement}
 use Rattle.any.proofs.any_holds.Tie as tie
 
 abbrev Inv-loop : tie.InvT-loop
-Inv-loop v counts starts list p i₀ i = (i ≤ length list) × (fold (step (containsIn (outlinesOf v counts) p)) false (drop i list) ≡ any (containsIn (outlinesOf v counts) p) list)
+Inv-loop v counts starts list p i₀ i =
+    (i ≤ length list) × (fold (step (containsIn (outlinesOf v counts) p)) false (drop i list) ≡ any (containsIn (outlinesOf v counts) p) list)
 
 abbrev μ-loop : tie.MeasureT-loop
 μ-loop v counts starts list p i₀ i = length list - i
@@ -58,7 +59,8 @@ returns-2 : tie.Need-returns-2 Inv-loop μ-loop
 returns-2 c =
     let l = c .before in
     let a = l .before .before .before .before .before .args in
-    sym (fold-drop-end (step (containsIn (outlinesOf (now (a .v)) (now (a .counts))) (a .p))) false (now (a .list)) _ (l .loop .inv .0) (c .loop-test .left)) ∙ l .loop .inv .1
+    let f = containsIn (outlinesOf (now (a .v)) (now (a .counts))) (a .p) in
+    sym (fold-drop-end (step f) false (now (a .list)) _ (l .loop .inv .0) (c .loop-test .left)) ∙ l .loop .inv .1
 
 pub any-holds-spec : {M : Type 1} → statement M
 any-holds-spec =
