@@ -61,7 +61,7 @@ most (inf true) n = tt
 most (inf false) n = tt
 most (fin s m e) n = tt
 
-least : (x : Float) → Number x → T (le (inf true) x)
+pub least : (x : Float) → Number x → T (le (inf true) x)
 unfolding le lt isNan
 least nan n = absurd n
 least (inf true) n = tt

@@ -22,15 +22,14 @@ use Rattle.signs.specs.Signs.{absOf, maxOf}
 use Rattle.number.proofs.Operations.{equation→is, zero-is, finite-is, add-rounds, sub-rounds, mul-rounds}
 use Rattle.number.proofs.RoundingLaws.{rounds-order, rounds-neg}
 use Rattle.number.proofs.ExactLaws.{mul-result}
-use Rattle.number.proofs.HypotLaws.{hypot-mono}
 use Rattle.number.proofs.Monotone.{sub-mono}
-use Rattle.number.proofs.OrderLaws.{is-order, le-self, le-through, not-below, max-one-of, le-abs, neg-le-abs, abs-nonneg, abs-at-most, le-max-left, le-max-right}
+use Rattle.number.proofs.OrderLaws.{is-order, le-self, le-through, not-below, max-one-of, le-abs, neg-le-abs, abs-nonneg, abs-at-most, le-max-left}
 use Rattle.number.proofs.Values.{held-not-nan, rounded-natAbs, is-rounds, rounds-not-nan}
 use Rattle.boundary.specs.declared.Point.{Point}
 use Rattle.boundary.specs.declared.Edge.{Edge}
 use Rattle.boundary.specs.declared.Bounds.{Bounds}
-use Rattle.boundary.specs.Line.{paramOf, alongOf, footOf, lineNear}
-use Rattle.boundary.specs.Boxes.{PointOf, FieldValue, FieldPoint, FieldEdge, FieldBox, FiniteBox, Between, Share, Inside, lesser, greater, hull, edgeBox, hair, nano, scaleOf, widenedBy, widenedOf, Around, gapAlong, gapOf}
+use Rattle.boundary.specs.Line.{alongOf, footOf}
+use Rattle.boundary.specs.Boxes.{FieldValue, FieldPoint, FieldEdge, FieldBox, FiniteBox, Between, Share, Inside, lesser, greater, hull, edgeBox, hair, nano, scaleOf, widenedBy, widenedOf, Around, gapAlong}
 use Rattle.boundary.proofs.FieldLaws.{field-held, field-is, field-box-finite, field-not-nan, is-field, field-abs, field-sub, field-add, widened-finite}
 use Rattle.number.proofs.Basics.{one-of}
 use Rattle.boundary.proofs.AlongLaws.{param-share, along-inside, along-widened, ends-between, along-fits, between-held, along-short}
@@ -155,7 +154,7 @@ around-inside {q} {n} {b} A i = record {
   y = record { low = le-through (n .min .y) (b .min .y) (q .y) (A .bottom) (i .y .low); high = le-through (q .y) (b .max .y) (n .max .y) (i .y .high) (A .top) };
 }
 
--- ---- the gap of a box that has the point q is at most the distance from q, of one axis and of both
+-- ---- the gap of a box that has the point q is at most the distance from q, of one axis
 
 module _ {lo hi p q : Float} (L : Held lo) (H : Held hi) (P : Held p) (Q : Held q) (i : Between lo q hi) where
   abbrev d : Float
@@ -179,13 +178,6 @@ module _ {lo hi p q : Float} (L : Held lo) (H : Held hi) (P : Held p) (Q : Held 
   pub gap-along : T (le (gapAlong lo hi p) (absOf (sub binary64 p q)))
   unfolding gapAlong
   gap-along = max-one-of (λ (v : Float). T (le v (absOf d))) (max-one-of (λ (v : Float). T (le v (absOf d))) below above) (abs-nonneg d d-number)
-
-  gap-nonneg : T (le zeroᶠ (gapAlong lo hi p))
-  unfolding gapAlong
-  gap-nonneg = le-max-right (maxOf (sub binary64 lo p) (sub binary64 p hi)) zeroᶠ (unfold isNan in tt)
-
-  gap-size : T (le (absOf (gapAlong lo hi p)) (absOf (sub binary64 p q)))
-  gap-size = abs-at-most (gapAlong lo hi p) (absOf d) gap-nonneg gap-along
 
   -- the same without a maximum of IEEE 754, as the search has it
   abbrev out : Float
@@ -214,27 +206,6 @@ along-out {a} {b} {p} {t} fa fb fp s fw W =
     let h = field-add (one-of FieldValue (lt a b) fb fa) fw in
     let i = along-widened fa fb s (field-held fw) W in
     out-size l h (field-held fp) (between-held l h (along-fits a b t (fb .fits)) i) i
-
-foot-held : {e : Edge} (p : Point) {n : Bounds} → FieldEdge e → FiniteBox n → Inside (footOf e p) n → PointOf Held (footOf e p)
-unfolding footOf
-foot-held {e} p E N i = record {
-  x = between-held (N .min .x) (N .max .x) (along-fits (e .a .x) (e .b .x) (paramOf e p) (E .b .x .fits)) (i .x);
-  y = between-held (N .min .y) (N .max .y) (along-fits (e .a .y) (e .b .y) (paramOf e p) (E .b .y .fits)) (i .y);
-}
-
--- ---- THE GAP of every finite box that has the nearest point is at most the distance
-
-pub gap-below : {e : Edge} {p : Point} {n : Bounds} → FieldEdge e → FieldPoint p → FiniteBox n → Inside (footOf e p) n → T (le (gapOf n p) (lineNear e p .d))
-unfolding gapOf lineNear
-gap-below {e} {p} {n} E P N i =
-    let q = foot-held p E N i in
-    hypot-mono (gapAlong (n .min .x) (n .max .x) (p .x)) (gapAlong (n .min .y) (n .max .y) (p .y)) (sub binary64 (p .x) (footOf e p .x)) (sub binary64 (p .y) (footOf e p .y))
-    (gap-size (N .min .x) (N .max .x) (field-held (P .x)) (q .x) (i .x))
-    (gap-size (N .min .y) (N .max .y) (field-held (P .y)) (q .y) (i .y))
-
--- so of every box around the widened box of a box that has both ends
-pub gap-around : {e : Edge} {p : Point} {n b : Bounds} → FieldEdge e → FieldPoint p → FieldBox b → Inside (e .a) b → Inside (e .b) b → FiniteBox n → Around n (widenedOf b) → T (le (gapOf n p) (lineNear e p .d))
-gap-around E P B ia ib N A = gap-below E P N (around-inside A (foot-inside E P B ia ib))
 
 -- the differences from the nearest point, for `hypot-clear`
 pub foot-short : {e : Edge} {p : Point} → FieldEdge e → FieldPoint p → Short (sub binary64 (p .x) (footOf e p .x)) × Short (sub binary64 (p .y) (footOf e p .y))

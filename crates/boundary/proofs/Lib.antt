@@ -4,8 +4,10 @@
 pub mod FieldLaws
 -- The nearest point of an edge lies between its ends, widened, of one axis.
 pub mod AlongLaws
--- It lies in the widened box, and the gap is at most the distance.
+-- It lies in the widened box.
 pub mod BoxLaws
+-- The gap of a box is at most the distance: `gap-around`.
+pub mod GapLaws
 -- The box around two boxes.
 pub mod AroundLaws
 -- What owning a point or an edge tells.

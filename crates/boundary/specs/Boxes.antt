@@ -59,6 +59,10 @@ FieldBox b = BoxOf FieldValue b
 abbrev pub FiniteBox : Bounds → Type 0
 FiniteBox b = BoxOf Held b
 
+-- a box whose corners are `f64`s
+abbrev pub DoubleBox : Bounds → Type 0
+DoubleBox b = BoxOf (λ x. T (fits binary64 x)) b
+
 -- ---- a point in a box, and a box around another
 -- lo ≤ q ≤ hi
 pub record Between (lo q hi : Float) : Type 0 where

@@ -28,7 +28,8 @@ use Rattle.index.proofs.Theorems.{items-times, items-once, node-boxes, nodes-51
 use Rattle.set.specs.Set.{Outline, outlineIn, setBox, setBoxes, Fitting, DoubleSet}
 use Rattle.set.proofs.SetLaws.{outline-past, outline-numbers, boxes-length, box-at-set, boxes-tested, box-field}
 use Rattle.search.specs.Least.{magnitudeAt}
-use Rattle.search.specs.Walk.{DoubleBox, Covered, Searched}
+use Rattle.search.specs.Walk.{Covered, Searched}
+use Rattle.boundary.specs.Boxes.{DoubleBox}
 use Rattle.search.proofs.MagnitudeLaws.{Length, magnitude-length, magnitude-none, gap-magnitude}
 
 -- what holds of every node, of two facts that do

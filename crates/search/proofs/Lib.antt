@@ -2,8 +2,6 @@
 
 -- The least of some magnitudes, the lowest number among equals: the search keeps the better of two, and there is only one best.
 pub mod LeastLaws
--- The gap of a box that has the nearest point of an edge is at most the edge's distance.
-pub mod EdgeGap
 -- An outline's magnitude: what it is, and that the gap of every box around the outline's is at most that.
 pub mod MagnitudeLaws
 -- The gap of every node of a tree that covers a set's outlines is at most the magnitude of each outline below it; our index is such a tree.

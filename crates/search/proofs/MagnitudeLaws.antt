@@ -38,8 +38,8 @@ use Rattle.geometry.specs.Polygon.{boundsOf, containsOf}
 use Rattle.boundary.proofs.AroundLaws.{Number, NumberBox, around-self, around-through, hull-number, hull-around, nowhere-number}
 use Rattle.set.specs.Set.{Outline, outlineBox}
 use Rattle.search.specs.Least.{magnitudeOf}
-use Rattle.search.specs.Walk.{DoubleBox}
-use Rattle.search.proofs.EdgeGap.{gap-edge}
+use Rattle.boundary.specs.Boxes.{DoubleBox}
+use Rattle.boundary.proofs.GapLaws.{gap-around}
 
 -- ---- the magnitude of a signed distance is the distance
 -- `f64` has one +0
@@ -181,7 +181,7 @@ module _ (o : Outline) (N : (i : ℕ) → i < length o → FieldValue (getD o i 
     gap-magnitude n B F A =
         rw magnitude-is
         (nearest-one-of (λ c. T (le (gapOf n p) (c .d)))
-        (λ i l. gap-edge (edge-field i l) P B (vertex-inside i l) (vertex-inside (after (count o) i) (after-within i l)) F A))
+        (λ i l. gap-around (edge-field i l) P B (vertex-inside i l) (vertex-inside (after (count o) i) (after-within i l)) F A))
 
 -- no outline is infinitely far
 pub magnitude-none : (p : Point) → magnitudeOf [] p ≡ inf false

@@ -3,12 +3,12 @@ use mathlib.Core.Path.{_≡_}
 use mathlib.Core.Bool.{Bool, true, cond, _&&_, _||_}
 use mathlib.Core.List.{List}
 use Prim.Native.Nat.{ℕ, _+_, _*_, _≤_, _<_}
-use lib.Dec.{T, ltb}
+use lib.Dec.{ltb}
 use lib.ListN.{length}
-use lib.Ieee.{Float, binary64, fits, lt, eq}
+use lib.Ieee.{Float, lt, eq}
 use Rattle.boundary.specs.declared.Point.{Point}
 use Rattle.boundary.specs.declared.Bounds.{Bounds}
-use Rattle.boundary.specs.Boxes.{BoxOf, Around, pointInField, widenedOf, gapOf}
+use Rattle.boundary.specs.Boxes.{Around, pointInField, widenedOf, gapOf, DoubleBox}
 use Rattle.lists.specs.Lists.{fold, In}
 use Rattle.heap.specs.declared.Entry.{Entry}
 use Rattle.heap.specs.Heap.{Pushed}
@@ -40,10 +40,6 @@ pub record Asked (v : List Float) (cs ss : List ℕ) (p : Point) : Type 0 where
   pub fitting : Fitting (outlinesOf v cs)
   pub held : DoubleSet (outlinesOf v cs)
   pub point : pointInField p ≡ true
-
--- the corners are `f64`s
-abbrev pub DoubleBox : Bounds → Type 0
-DoubleBox b = BoxOf (λ x. T (fits binary64 x)) b
 
 -- the item i below a node with the box b is an outline's number, and the box is around that outline's widened box
 pub record Covered (os : List Outline) (b : Bounds) (i : ℕ) : Type 0 where

@@ -1,4 +1,4 @@
--- The gap of a box that has the nearest point of an edge is at most the edge's distance: a corner of the box is an `f64`, and may be infinite. Assumes nothing.
+-- The gap of a box that has the nearest point of an edge is at most the edge's distance; a corner of the box is an `f64`, and may be infinite. Assumes nothing.
 use mathlib.Core.Bool.{true, false}
 use lib.Dec.{T}
 use lib.Ieee.{Float, nan, inf, fin, binary64, add, sub, neg, lt, le, eq, isNan, fits}
@@ -9,26 +9,18 @@ use Rattle.number.proofs.Operations.{finite-is, sub-rounds}
 use Rattle.number.proofs.HypotLaws.{hypot-mono}
 use Rattle.number.proofs.OrderLaws.{le-self, le-through, max-one-of, abs-nonneg, abs-at-most, le-max-left, le-max-right, right-not-nan}
 use Rattle.number.proofs.Values.{held-not-nan, rounds-not-nan}
 use Rattle.boundary.specs.declared.Point.{Point}
 use Rattle.boundary.specs.declared.Edge.{Edge}
 use Rattle.boundary.specs.declared.Bounds.{Bounds}
-use Rattle.boundary.specs.Boxes.{FieldPoint, FieldEdge, FieldBox, Between, Inside, Around, widenedOf, gapAlong, gapOf}
+use Rattle.boundary.specs.Boxes.{FieldPoint, FieldEdge, FieldBox, DoubleBox, Between, Inside, Around, widenedOf, gapAlong, gapOf}
 use Rattle.boundary.specs.Line.{paramOf, footOf, lineNear}
 use Rattle.boundary.proofs.AlongLaws.{along-fits, between-held}
-use Rattle.boundary.proofs.AroundLaws.{Number}
+use Rattle.boundary.proofs.AroundLaws.{Number, least}
 use Rattle.boundary.proofs.BoxLaws.{foot-inside, around-inside, widened-box-finite, gap-along}
 use Rattle.boundary.proofs.FieldLaws.{field-held}
-use Rattle.search.specs.Walk.{DoubleBox}
 
 difference-number : {a b : Float} → Held a → Held b → Number (sub binary64 a b)
 difference-number A B = rounds-not-nan (sub-rounds (finite-is A .1) (finite-is B .1))
-
-least : (x : Float) → Number x → T (le (inf true) x)
-unfolding le lt eq isNan
-least nan n = absurd n
-least (inf true) n = tt
-least (inf false) n = tt
-least (fin s m e) n = tt
 
 -- ---- of one axis: p and q are finite, and q is between lo and hi
 module _ {p q : Float} (P : Held p) (Q : Held q) where
@@ -112,9 +104,9 @@ module _ {p q : Float} (P : Held p) (Q : Held q) where
       (max-one-of below (max-one-of below (low lo L (i .low)) (high hi H (i .high))) (abs-nonneg d d-number))
 
 -- ---- THE GAP of every box of `f64`s around the widened box of a box that has both ends of an edge is at most the edge's distance
-pub gap-edge : {e : Edge} {p : Point} {n b : Bounds} → FieldEdge e → FieldPoint p → FieldBox b → Inside (e .a) b → Inside (e .b) b → DoubleBox n → Around n (widenedOf b) → T (le (gapOf n p) (lineNear e p .d))
+pub gap-around : {e : Edge} {p : Point} {n b : Bounds} → FieldEdge e → FieldPoint p → FieldBox b → Inside (e .a) b → Inside (e .b) b → DoubleBox n → Around n (widenedOf b) → T (le (gapOf n p) (lineNear e p .d))
 unfolding gapOf lineNear footOf
-gap-edge {e} {p} {n} E P B ia ib N A =
+gap-around {e} {p} {n} E P B ia ib N A =
     let w = widened-box-finite B in
     let i = foot-inside E P B ia ib in
     let j = around-inside A i in
