@@ -25,6 +25,14 @@ pub fn put_starts(counts: &[u32], starts: &mut [u32])
     }
 }
 
+// The outline whose numbers stand from `at` to `end`: the one place where an outline is cut out of a set's list.
+pub fn outline_from(v: &[f64], at: usize, end: usize) -> &[f64]
+    requires { ⌜ (at ≤ end) × (end ≤ length (now v)) ⌝ }
+    ensures { λ r. ⌜ now r ≡ take (end - at) (drop at (now (v .entry))) ⌝ }
+{
+    &v[at..end]
+}
+
 // Outline k; past the last there is none.
 pub fn outline_at<'a>(v: &'a [f64], counts: &[u32], starts: &[u32], k: usize) -> &'a [f64]
     requires { ⌜ (2 * startOf (now counts) (length (now counts)) ≤ length (now v)) × Starts (now counts) (now starts) ⌝ }
@@ -33,9 +41,9 @@ pub fn outline_at<'a>(v: &'a [f64], counts: &[u32], starts: &[u32], k: usize) ->
     if k < counts.len() {
         let at = 2 * (lists::at(starts, k) as usize);
         let end = at + 2 * (lists::at(counts, k) as usize);
-        return &v[at..end];
+        return outline_from(v, at, end);
     }
-    &v[0..0]
+    outline_from(v, 0, 0)
 }
 
 // Stores the box of the outline whose numbers stand from `at` to `end` as box k.
@@ -43,7 +51,7 @@ fn put_box(v: &[f64], at: usize, end: usize, boxes: &mut [f64], k: usize)
     requires { ⌜ (at ≤ end) × (end ≤ length (now v)) × (k < 2 ^ 32) ⌝ }
     ensures { λ _. ⌜ now (boxes .exit) ≡ sets (now (boxes .entry)) (4 * k) (boxNumbers (boundsOf (vertices (take (end - at) (drop at (now (v .entry))))))) ⌝ }
 {
-    entries::put_box(boxes, k, polygon::box_of(&v[at..end]));
+    entries::put_box(boxes, k, polygon::box_of(outline_from(v, at, end)));
 }
 
 // The boxes of all outlines.

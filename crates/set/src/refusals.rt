@@ -10,6 +10,7 @@ ghost use Rattle.index.specs.Buffer.{buffer};
 ghost use Rattle.set.specs.Set.{startOf, outlinesOf};
 ghost use Rattle.set.specs.Tests.{listsTested, setTested, setQueryTested};
 ghost use Rattle.set.specs.OnePass.{firstFailed, leastFailed, testAt, rankOf};
+use crate::outlines::outline_from;
 use accept::Refusal;
 use accept::Test;
 use accept::refusals::in_field;
@@ -73,7 +74,7 @@ fn rank_in(v: &[f64], at: usize, end: usize) -> u32
     requires { ⌜ (at ≤ end) × (end ≤ length (now v)) ⌝ }
     ensures { λ r. ⌜ r ≡ firstFailed (take (end - at) (drop at (now (v .entry)))) ⌝ }
 {
-    rank_of(test_of(sign_tested(values_tested(&v[at..end]))))
+    rank_of(test_of(sign_tested(values_tested(outline_from(v, at, end)))))
 }
 
 fn lesser(a: u32, b: u32) -> u32

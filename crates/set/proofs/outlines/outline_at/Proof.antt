@@ -30,23 +30,16 @@ mul-end c = search needs
 add-end : tie.Need-add-end
 add-end c = search needs
 
-mul-result : tie.Need-mul-result
-mul-result c = search needs
-
-sub-result : tie.Need-sub-result
-sub-result c = search needs
-
-part-result-start : tie.Need-part-result-start
-part-result-start c = search needs
-
-part-result-end : tie.Need-part-result-end
-part-result-end c =
+outline-from-requires : tie.Need-outline-from-requires
+outline-from-requires c κs =
     let d = c .before .before .before .before .before .before in
     let a = d .args in
     let l = c .before .before .if1 .taken in
     let s = d .pre .1 .each (a .k) l in
     let w = part-within (now (a .v)) (now (a .counts)) (d .pre .0) (a .k) l in
-    search needs
+    let at = c .before .at .ensures in
+    let count = c .at2 .ensures in
+    (omega arith, omega arith)
 
 returns : tie.Need-returns
 returns c =
@@ -54,24 +47,19 @@ returns c =
     let a = d .args in
     let l = c .before .before .before .if1 .taken in
     let at = c .before .before .at in
-    part-is (now (a .v)) (now (a .counts)) (a .k) _ _ (ap (λ (m : ℕ). 2 * m) (at .ensures ∙ d .pre .1 .each (a .k) l)) (ap (λ (m : ℕ). 2 * at .result + 2 * m) (c .before .at2 .ensures))
+    c .outline-from .ensures
+    ∙ part-is (now (a .v)) (now (a .counts)) (a .k) _ _ (ap (λ (m : ℕ). 2 * m) (at .ensures ∙ d .pre .1 .each (a .k) l)) (ap (λ (m : ℕ). 2 * at .result + 2 * m) (c .before .at2 .ensures))
     ∙ sym (outline-is (now (a .v)) (now (a .counts)) (a .k))
 
-sub-result-2 : tie.Need-sub-result-2
-sub-result-2 c = search needs
-
-part-result-start-2 : tie.Need-part-result-start-2
-part-result-start-2 c = search needs
-
-part-result-end-2 : tie.Need-part-result-end-2
-part-result-end-2 c = search needs
+outline-from-requires-2 : tie.Need-outline-from-requires-2
+outline-from-requires-2 c κs = search needs
 
 returns-2 : tie.Need-returns-2
 returns-2 c =
     let a = c .before .before .before .before .before .args in
     let n = outlines-length (now (a .v)) (now (a .counts)) in
     let l = c .before .if1 .left in
-    sym (outline-past (outlinesOf (now (a .v)) (now (a .counts))) (a .k) (omega arith))
+    c .outline-from2 .ensures ∙ sym (outline-past (outlinesOf (now (a .v)) (now (a .counts))) (a .k) (omega arith))
 
 pub outline-at-spec : {M : Type 1} → statement M
 outline-at-spec =
@@ -84,12 +72,7 @@ outline-at-spec =
     cast-end
     mul-end
     add-end
-    mul-result
-    sub-result
-    part-result-start
-    part-result-end
+    outline-from-requires
     returns
-    sub-result-2
-    part-result-start-2
-    part-result-end-2
+    outline-from-requires-2
     returns-2)

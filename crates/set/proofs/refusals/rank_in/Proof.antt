@@ -5,17 +5,8 @@ use borrow.Author.Needs.{needs}
 use Rattle.set.proofs.refusals.rank_in.Statement.{statement}
 use Rattle.set.proofs.refusals.rank_in.Tie as tie
 
-mul-values-tested : tie.Need-mul-values-tested
-mul-values-tested c = search needs
-
-sub-values-tested : tie.Need-sub-values-tested
-sub-values-tested c = search needs
-
-part-values-tested-start : tie.Need-part-values-tested-start
-part-values-tested-start c = search needs
-
-part-values-tested-end : tie.Need-part-values-tested-end
-part-values-tested-end c = search needs
+outline-from-requires : tie.Need-outline-from-requires
+outline-from-requires c κs = search needs
 
 values-tested-requires : tie.Need-values-tested-requires
 values-tested-requires c κs = search needs
@@ -32,16 +23,14 @@ rank-of-requires c κs = search needs
 returns : tie.Need-returns
 returns c =
     let d = c .before .before in
-    rw (c .rank-of .ensures, c .before .test-of .ensures, d .sign-tested .ensures _ _ (d .before .values-tested .ensures), test-of-verdict) (rank-first _)
+    let o = d .before .before .outline-from .ensures in
+    rw (c .rank-of .ensures, c .before .test-of .ensures, d .sign-tested .ensures _ _ (d .before .values-tested .ensures), test-of-verdict, o) (rank-first _)
 
 pub rank-in-spec : {M : Type 1} → statement M
 rank-in-spec =
     tie.close
     (tie.spec
-    mul-values-tested
-    sub-values-tested
-    part-values-tested-start
-    part-values-tested-end
+    outline-from-requires
     values-tested-requires
     sign-tested-requires
     test-of-requires
