@@ -145,8 +145,9 @@ pub fn bounds(v: &[f64]) -> Answer
 pub fn contains(v: &[f64], p: Point) -> Answer
     ensures { λ r. ⌜ r ≡ containsAnswer (now (v .entry)) p ⌝ }
 {
+    let within = refusals::point_in_field(p);
     let t = refusals::outline_tested(v);
-    match refusals::refusing(t, Refusal::BadPoint, !refusals::point_in_field(p)) {
+    match refusals::refusing(t, Refusal::BadPoint, !within) {
         Test::Passed => Answer::Told(if holds(v, p) { 1 } else { 0 }),
         Test::Failed(r) => Answer::Refused(r),
     }
@@ -155,8 +156,9 @@ pub fn contains(v: &[f64], p: Point) -> Answer
 pub fn locate(v: &[f64], p: Point) -> Answer
     ensures { λ r. ⌜ r ≡ locateAnswer (now (v .entry)) p ⌝ }
 {
+    let within = refusals::point_in_field(p);
     let t = refusals::outline_tested(v);
-    match refusals::refusing(t, Refusal::BadPoint, !refusals::point_in_field(p)) {
+    match refusals::refusing(t, Refusal::BadPoint, !within) {
         Test::Passed => Answer::Told(location(v, p)),
         Test::Failed(r) => Answer::Refused(r),
     }
@@ -167,8 +169,9 @@ pub fn locate(v: &[f64], p: Point) -> Answer
 pub fn distance(v: &[f64], p: Point) -> Answer
     ensures { λ r. ⌜ r ≡ distanceAnswer (now (v .entry)) p ⌝ }
 {
+    let within = refusals::point_in_field(p);
     let t = refusals::outline_tested(v);
-    match refusals::refusing(t, Refusal::BadPoint, !refusals::point_in_field(p)) {
+    match refusals::refusing(t, Refusal::BadPoint, !within) {
         Test::Passed => {
             let edge = distance::nearest::nearest_edge(v, p);
             let inside = holds(v, p);

@@ -8,11 +8,11 @@ use Rattle.accept.proofs.TestLaws.{accepted-field, refusing-passed}
 use Rattle.geometry.proofs.polygon.distance.Statement.{statement}
 use Rattle.geometry.proofs.polygon.distance.Tie as tie
 
-outline-tested-requires : tie.Need-outline-tested-requires
-outline-tested-requires c κs = search needs
-
 point-in-field-requires : tie.Need-point-in-field-requires
 point-in-field-requires c κs = search needs
+
+outline-tested-requires : tie.Need-outline-tested-requires
+outline-tested-requires c κs = search needs
 
 refusing-requires : tie.Need-refusing-requires
 refusing-requires c κs = search needs
@@ -24,8 +24,8 @@ nearest-edge-requires : tie.Need-nearest-edge-requires
 nearest-edge-requires c κs =
     let d = c .before .before in
     let q = refusing-passed _ _ _ (sym (d .refusing .ensures) ∙ c .enum-told .given .1) in
-    let v = accepted-field _ (sym (d .before .before .outline-tested .ensures) ∙ q .0) in
-    (v .0, sym (d .before .point-in-field .ensures) ∙ not-false _ (q .1), v .1)
+    let v = accepted-field _ (sym (d .before .outline-tested .ensures) ∙ q .0) in
+    (v .0, sym (d .before .before .point-in-field .ensures) ∙ not-false _ (q .1), v .1)
 
 holds-requires : tie.Need-holds-requires
 holds-requires c κs = search needs
@@ -41,15 +41,15 @@ unfolding distanceAnswer queryTested given
 returns c =
     let d = c .before .before .before in
     let e = d .before .before in
-    rw (← e .before .before .outline-tested .ensures, ← e .before .point-in-field .ensures, ← e .refusing .ensures)
+    rw (← e .before .outline-tested .ensures, ← e .before .before .point-in-field .ensures, ← e .refusing .ensures)
     (rw (d .enum-told .given .1, c .distance .ensures, c .before .holds .ensures))
 
 returns-2 : tie.Need-returns-2
 unfolding distanceAnswer queryTested given
 returns-2 c =
     let d = c .before .before .before in
-    rw (← d .before .before .outline-tested .ensures, ← d .before .point-in-field .ensures, ← d .refusing .ensures)
+    rw (← d .before .outline-tested .ensures, ← d .before .before .point-in-field .ensures, ← d .refusing .ensures)
     (rw (c .before .r .given .1))
 
 pub distance-spec : {M : Type 1} → statement M
-distance-spec = tie.close (tie.spec outline-tested-requires point-in-field-requires refusing-requires enum-told nearest-edge-requires holds-requires distance-requires enum-known-r returns returns-2)
+distance-spec = tie.close (tie.spec point-in-field-requires outline-tested-requires refusing-requires enum-told nearest-edge-requires holds-requires distance-requires enum-known-r returns returns-2)

@@ -5,11 +5,11 @@ use Rattle.geometry.specs.Answers.{queryTested, locateAnswer}
 use Rattle.geometry.proofs.polygon.locate.Statement.{statement}
 use Rattle.geometry.proofs.polygon.locate.Tie as tie
 
-outline-tested-requires : tie.Need-outline-tested-requires
-outline-tested-requires c κs = search needs
-
 point-in-field-requires : tie.Need-point-in-field-requires
 point-in-field-requires c κs = search needs
+
+outline-tested-requires : tie.Need-outline-tested-requires
+outline-tested-requires c κs = search needs
 
 refusing-requires : tie.Need-refusing-requires
 refusing-requires c κs = search needs
@@ -27,15 +27,15 @@ returns : tie.Need-returns
 unfolding locateAnswer queryTested given
 returns c =
     let d = c .before .before .before in
-    rw (← d .before .before .outline-tested .ensures, ← d .before .point-in-field .ensures, ← d .refusing .ensures)
+    rw (← d .before .outline-tested .ensures, ← d .before .before .point-in-field .ensures, ← d .refusing .ensures)
     (rw (c .before .enum-told .given .1, c .location .ensures))
 
 returns-2 : tie.Need-returns-2
 unfolding locateAnswer queryTested given
 returns-2 c =
     let d = c .before .before .before in
-    rw (← d .before .before .outline-tested .ensures, ← d .before .point-in-field .ensures, ← d .refusing .ensures)
+    rw (← d .before .outline-tested .ensures, ← d .before .before .point-in-field .ensures, ← d .refusing .ensures)
     (rw (c .before .r .given .1))
 
 pub locate-spec : {M : Type 1} → statement M
-locate-spec = tie.close (tie.spec outline-tested-requires point-in-field-requires refusing-requires enum-told location-requires enum-known-r returns returns-2)
+locate-spec = tie.close (tie.spec point-in-field-requires outline-tested-requires refusing-requires enum-told location-requires enum-known-r returns returns-2)
