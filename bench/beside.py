@@ -16,8 +16,8 @@ def rows(name):
     return found
 
 
-now = [rows(f'target/bench/now.{i}') for i in range(1, rounds + 1)]
-was = [rows(f'target/bench/earlier/was.{i}') for i in range(1, rounds + 1)]
+now = [rows(f'target/bench/now/{i}') for i in range(1, rounds + 1)]
+was = [rows(f'target/bench/was/{i}') for i in range(1, rounds + 1)]
 print(f"{'operation':<10} {'inputs':<40} {'now ns':>12} {'was ns':>12} {'now/was':>8} {'now/Rust':>8}")
 worst = ('', 0.0)
 for row in now[0]:
