@@ -16,7 +16,7 @@ use Rattle.accept.specs.Refusals.{number, given, _refusing_when_}
 use Rattle.index.specs.declared.Built.{Built}
 use Rattle.index.specs.declared.Built.the-variants.{Refused, Sized}
 use Rattle.index.specs.declared.BuildFields.{BuildFields}
-use Rattle.index.specs.Buffer.{IndexBuffer, shortBuffer, holding}
+use Rattle.index.specs.Buffer.{IndexBuffer, shortBuffer, holding, cornerPlaces, linkPlaces, itemPlaces}
 use Rattle.entries.specs.Entries.{boxesOf}
 use Rattle.splits.specs.Tree.{indexOf, itemsOf}
 use Rattle.nodes.specs.Layout.{nodesOf}
@@ -34,9 +34,9 @@ boxesTested v =
 pub record Accepted (v : List Float) (c l n : ℕ) : Type 0 where
   pub size : length v ≤ 4096
   pub whole : length v % 4 ≡ 0
-  pub corners : 2044 ≤ c
-  pub links : 1022 ≤ l
-  pub items : 1024 ≤ n
+  pub corners : cornerPlaces ≤ c
+  pub links : linkPlaces ≤ l
+  pub items : itemPlaces ≤ n
 
 -- working lists that are long enough to build over n boxes: for their widened boxes, their centres' coordinates and their numbers
 pub record Workspace (n w x y k : ℕ) : Type 0 where

@@ -23,9 +23,19 @@ pub record IndexBuffer : Type 0 where
 abbrev pub buffer : List Float → List ℕ → List ℕ → IndexBuffer
 buffer corners links items = record { corners = corners; links = links; items = items }
 
+-- its sizes: 511 nodes, with four corner numbers and two link numbers each, and 1,024 items
+abbrev pub cornerPlaces : ℕ
+cornerPlaces = 2044
+
+abbrev pub linkPlaces : ℕ
+linkPlaces = 1022
+
+abbrev pub itemPlaces : ℕ
+itemPlaces = 1024
+
 -- lists of so many corner numbers, link numbers and items are no index buffer: they are too short (test 13)
 abbrev pub shortSizes : ℕ → ℕ → ℕ → Bool
-shortSizes corners links items = ltb corners 2044 || (ltb links 1022 || ltb items 1024)
+shortSizes corners links items = ltb corners cornerPlaces || (ltb links linkPlaces || ltb items itemPlaces)
 
 abbrev pub shortBuffer : IndexBuffer → Bool
 shortBuffer B = shortSizes (length (B .corners)) (length (B .links)) (length (B .items))
@@ -48,9 +58,9 @@ grown t B = record { answer = length (nodesOf t); lent = holding t B }
 unfoldable pub cleared : IndexBuffer → IndexBuffer
 unfolding atFront
 cleared B = record {
-  corners = atFront (zeros zeroᶠ 2044) (B .corners);
-  links = atFront (zeros 0 1022) (B .links);
-  items = atFront (zeros 0 1024) (B .items);
+  corners = atFront (zeros zeroᶠ cornerPlaces) (B .corners);
+  links = atFront (zeros 0 linkPlaces) (B .links);
+  items = atFront (zeros 0 itemPlaces) (B .items);
 }
 
 -- ---- a tree that stands in an index buffer, wherever its nodes and items are

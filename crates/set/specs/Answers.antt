@@ -8,7 +8,7 @@ use Rattle.boundary.specs.declared.Point.{Point}
 use Rattle.accept.specs.declared.Refusal.{Refusal}
 use Rattle.accept.specs.Answers.{Outcome}
 use Rattle.accept.specs.Refusals.{given}
-use Rattle.index.specs.Buffer.{IndexBuffer, cleared}
+use Rattle.index.specs.Buffer.{IndexBuffer, cleared, cornerPlaces, linkPlaces, itemPlaces}
 use Rattle.set.specs.Set.{startOf, outlinesOf, Fit, Fitting}
 use Rattle.set.specs.Tests.{setQueryTested}
 
@@ -26,9 +26,9 @@ queryOutcome v cs p B a refused = given (setQueryTested v cs p B) (worked a B) (
 pub record Ready (v : List Float) (cs : List ℕ) (B : IndexBuffer) : Type 0 where
   pub fit : Fit v cs
   pub fitting : Fitting (outlinesOf v cs)
-  pub corners : 2044 ≤ length (B .corners)
-  pub links : 1022 ≤ length (B .links)
-  pub items : 1024 ≤ length (B .items)
+  pub corners : cornerPlaces ≤ length (B .corners)
+  pub links : linkPlaces ≤ length (B .links)
+  pub items : itemPlaces ≤ length (B .items)
 
 -- lists long enough for the outlines' boxes and for their starts
 abbrev pub Space : List ℕ → List Float → List ℕ → Type 0
