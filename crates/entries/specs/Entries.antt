@@ -1,7 +1,8 @@
 -- The boxes of a list, and their centres (document 01, index.rs). Definitions only.
-use mathlib.Core.List.{List, [], _∷_}
+use mathlib.Core.List.{List, [], _∷_, flatMap}
 use Prim.Native.Nat.{ℕ, _+_, _*_, _/_}
 use lib.ListN.{length, getD}
+use lib.Seq.{sets}
 use lib.Ieee.{Float, nan, add, mul}
 use Rattle.boundary.specs.declared.Point.{Point}
 use Rattle.boundary.specs.declared.Bounds.{Bounds}
@@ -42,3 +43,18 @@ centreOf b = record { x = middle (b .min .x) (b .max .x); y = middle (b .min .y)
 -- point i of those whose coordinates stand in two lists
 abbrev pub pointIn : List Float → List Float → ℕ → Point
 pointIn xs ys i = record { x = keyIn xs i; y = keyIn ys i }
+
+-- ---- what widening a list's boxes puts into three lists
+pub record WideLists : Type 0 where
+  pub wide : List Float
+  pub xs : List Float
+  pub ys : List Float
+
+-- the boxes of v, widened, and the coordinates of their centres, from the front of the lists on
+unfoldable pub widenedIn : List Float → List Float → List Float → List Float → WideLists
+unfolding run
+widenedIn v W X Y = record {
+  wide = sets W 0 (flatMap boxNumbers (run (wideAt v) 0 (boxCount v)));
+  xs = sets X 0 (run (λ i. centreOf (wideAt v i) .x) 0 (boxCount v));
+  ys = sets Y 0 (run (λ i. centreOf (wideAt v i) .y) 0 (boxCount v));
+}

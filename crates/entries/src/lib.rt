@@ -1,12 +1,11 @@
 // The boxes of a list, widened, and their centres.
 ghost use mathlib.Core.Path.{_≡_};
-ghost use mathlib.Core.List.{flatMap};
 ghost use Prim.Native.Nat.{_*_, _≤_, _<_, _^_};
 ghost use lib.ListN.{length};
 ghost use lib.Seq.{sets};
 ghost use Rattle.boundary.specs.Boxes.{scaleOf, widenedOf};
 ghost use Rattle.lists.specs.Lists.{run};
-ghost use Rattle.entries.specs.Entries.{boxCount, boxAt, boxNumbers, wideAt, centreOf};
+ghost use Rattle.entries.specs.Entries.{boxCount, boxAt, boxNumbers, centreOf, widenedIn};
 use boundary::Bounds;
 use boundary::Point;
 use boundary::middle_of;
@@ -118,9 +117,7 @@ pub fn centre(b: Bounds) -> Point
 // The widened boxes of a list, and their centres' coordinates.
 pub fn widen(boxes: &[f64], wide: &mut [f64], xs: &mut [f64], ys: &mut [f64])
     requires { ⌜ boxCount (now boxes) ≤ 1024 ⌝ }
-    ensures { λ _. ⌜ (now (wide .exit) ≡ sets (now (wide .entry)) 0 (flatMap boxNumbers (run (wideAt (now (boxes .entry))) 0 (boxCount (now (boxes .entry))))))
-        × (now (xs .exit) ≡ sets (now (xs .entry)) 0 (run (λ i. centreOf (wideAt (now (boxes .entry)) i) .x) 0 (boxCount (now (boxes .entry)))))
-        × (now (ys .exit) ≡ sets (now (ys .entry)) 0 (run (λ i. centreOf (wideAt (now (boxes .entry)) i) .y) 0 (boxCount (now (boxes .entry))))) ⌝ }
+    ensures { λ _. ⌜ record { wide = now (wide .exit); xs = now (xs .exit); ys = now (ys .exit) } ≡ widenedIn (now (boxes .entry)) (now (wide .entry)) (now (xs .entry)) (now (ys .entry)) ⌝ }
 {
     let n = boxes.len() / 4;
     let mut i = 0;

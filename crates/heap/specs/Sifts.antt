@@ -5,13 +5,22 @@ use mathlib.Core.List.{List}
 use Prim.Native.Nat.{ℕ, _+_, _*_, _<_}
 use lib.Dec.{ltb}
 use lib.ListN.{getD, set}
+use lib.Ieee.{Float, nan}
 use Rattle.heap.specs.declared.Entry.{Entry}
 use Rattle.heap.specs.Order.{before, Number, _≼_}
 use Rattle.heap.specs.Heap.{parent, Heaped, total}
 
+-- the two lists of a heap
+pub record HeapLists : Type 0 where
+  pub nodes : List ℕ
+  pub gaps : List Float
+
 -- the list with what stands at i and j exchanged
 abbrev pub exchanged : {A : Type 0} → A → List A → ℕ → ℕ → List A
 exchanged d l i j = set (set l i (getD l j d)) j (getD l i d)
+
+abbrev pub exchangedIn : List ℕ → List Float → ℕ → ℕ → HeapLists
+exchangedIn N G i j = record { nodes = exchanged 0 N i j; gaps = exchanged nan G i j }
 
 -- the entry at i is before its parent
 unfoldable pub rises : (ℕ → Entry) → ℕ → Bool

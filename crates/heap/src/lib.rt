@@ -1,11 +1,10 @@
 // The waiting heap of `nearest`: node numbers and gaps in two lent lists, which keep their lengths; the least entry is first.
 ghost use mathlib.Core.Path.{_≡_};
 ghost use Prim.Native.Nat.{_+_, _<_, _≤_};
-ghost use lib.Ieee.{nan};
 ghost use lib.ListN.{length};
 ghost use Rattle.heap.specs.Order.{Number, before};
 ghost use Rattle.heap.specs.Heap.{entryAt, Heaped, Pushed, Popped};
-ghost use Rattle.heap.specs.Sifts.{exchanged, rises, firstOf, leastOf, Rising, Sinking, Sifted};
+ghost use Rattle.heap.specs.Sifts.{exchangedIn, rises, firstOf, leastOf, Rising, Sinking, Sifted};
 
 // A node that waits, with its gap: its distance from the point.
 pub struct Entry {
@@ -32,7 +31,7 @@ fn entry_at(nodes: &[u32], gaps: &[f64], i: usize) -> Entry
 // Exchanges the entries at i and j.
 fn exchange(nodes: &mut [u32], gaps: &mut [f64], i: usize, j: usize)
     requires { ⌜ ((i < length (now nodes)) × (i < length (now gaps))) × ((j < length (now nodes)) × (j < length (now gaps))) ⌝ }
-    ensures { λ _. ⌜ (now (nodes .exit) ≡ exchanged 0 (now (nodes .entry)) i j) × (now (gaps .exit) ≡ exchanged nan (now (gaps .entry)) i j) ⌝ }
+    ensures { λ _. ⌜ record { nodes = now (nodes .exit); gaps = now (gaps .exit) } ≡ exchangedIn (now (nodes .entry)) (now (gaps .entry)) i j ⌝ }
 {
     let node = nodes[i];
     nodes[i] = nodes[j];

@@ -41,6 +41,14 @@ keep p (x ∷ xs) = cond (p x) (x ∷ keep p xs) (keep p xs)
 abbrev pub others : (ℕ → Bool) → List ℕ → List ℕ
 others p xs = keep (λ x. not (p x)) xs
 
+-- a list parted by a test: how many members pass it, and the list with these first
+pub record Parted : Type 0 where
+  pub count : ℕ
+  pub list : List ℕ
+
+unfoldable pub partedBy : (ℕ → Bool) → List ℕ → Parted
+partedBy p xs = record { count = length (keep p xs); list = keep p xs ++ others p xs }
+
 -- of the first i members of s₀, those that pass have been put to the front of s, a of them, and the others to the front of t
 pub record Dealt (p : ℕ → Bool) (s₀ t₀ s t : List ℕ) (a i : ℕ) : Type 0 where
   pub within : i ≤ length s₀

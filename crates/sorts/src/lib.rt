@@ -3,7 +3,7 @@ ghost use mathlib.Core.Path.{_≡_};
 ghost use mathlib.Core.List.{_++_};
 ghost use Prim.Native.Nat.{_+_, _≤_};
 ghost use lib.ListN.{length, take, drop};
-ghost use Rattle.sorts.specs.Sort.{sort, merge, fromFirst, keep, others, Dealt};
+ghost use Rattle.sorts.specs.Sort.{sort, merge, fromFirst, partedBy, Dealt};
 ghost use Rattle.sorts.specs.Keys.{totalLess, goesBy, goes, ahead, aheadBit, keyIn};
 
 // The key of item i, NaN past the end.
@@ -156,8 +156,7 @@ fn dealt(keys: &[f64], v: f64, x: u32, s: &mut [u32], t: &mut [u32]) -> usize
 // order in which they stood; gives how many go before. t is working space, at least as long.
 pub fn parted(keys: &[f64], v: f64, x: u32, s: &mut [u32], t: &mut [u32]) -> usize
     requires { ⌜ length (now s) ≤ length (now t) ⌝ }
-    ensures { λ r. ⌜ (now (s .exit) ≡ keep (ahead (keyIn (now (keys .entry))) v x) (now (s .entry)) ++ others (ahead (keyIn (now (keys .entry))) v x) (now (s .entry)))
-        × (r ≡ length (keep (ahead (keyIn (now (keys .entry))) v x) (now (s .entry)))) ⌝ }
+    ensures { λ r. ⌜ record { count = r; list = now (s .exit) } ≡ partedBy (ahead (keyIn (now (keys .entry))) v x) (now (s .entry)) ⌝ }
 {
     let n = s.len();
     let a = dealt(keys, v, x, s, t);

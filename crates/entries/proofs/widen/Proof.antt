@@ -3,7 +3,7 @@ use Rattle.boundary.specs.Boxes.{widenedOf}
 use mathlib.Core.List.{flatMap}
 use Rattle.boundary.specs.declared.Point.{Point}
 use Rattle.lists.proofs.StoreLaws.{sets-more, flat-more}
-use Rattle.entries.specs.Entries.{boxCount, boxNumbers, wideAt, centreOf}
+use Rattle.entries.specs.Entries.{boxCount, boxNumbers, wideAt, centreOf, widenedIn}
 use Rattle.lists.specs.Lists.{run}
 use lib.Seq.{sets, length-sets}
 use lib.ListN.{length}
@@ -71,10 +71,11 @@ same-length-3 : tie.Need-same-length-3 Inv-loop μ-loop
 same-length-3 c = ap length (c .before .loop .inv .3) ∙ simp length-sets
 
 returns : tie.Need-returns Inv-loop μ-loop
+unfolding widenedIn
 returns c =
     let inv = c .before .loop .inv in
     let n = le-antisymm (inv .0) (c .loop-test .left) in
-    (rw (← n) (inv .1), rw (← n) (inv .2), rw (← n) (inv .3))
+    rw (← n, inv .1, inv .2, inv .3)
 
 pub widen-spec : {M : Type 1} → statement M
 widen-spec =

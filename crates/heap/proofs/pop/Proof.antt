@@ -1,8 +1,10 @@
 -- `heap::pop` meets its contract: the last entry takes the root's place, and sinks. Assumes nothing.
+use mathlib.Core.Path.{ap}
 use Prim.Native.Nat.{_-_}
 use native.Mathlib.Omega.{arith}
 use borrow.Author.Needs.{needs}
 use denote.Ref.{now}
+use Rattle.heap.specs.Sifts.{HeapLists}
 use Rattle.heap.proofs.Contents.{exchanged-swap}
 use Rattle.heap.proofs.HeapLaws.{pop-sinking, popped}
 use Rattle.heap.proofs.pop.Statement.{statement}
@@ -25,7 +27,7 @@ sink-requires c κs =
     let a = c .before .before .before .before .before .before .before .before .before .before .before .before .before .before .args in
     let p = c .before .before .before .before .before .before .before .before .before .before .before .before .before .before .pre in
     let E = c .before .before .before .before .before .before .exchange .ensures in
-    let S = exchanged-swap (now (a .nodes)) (now (a .gaps)) 0 (a .n - 1) (E .0) (E .1) (omega arith) (omega arith) (omega arith) (omega arith) in
+    let S = exchanged-swap (now (a .nodes)) (now (a .gaps)) 0 (a .n - 1) (ap (λ (h : HeapLists). h .nodes) E) (ap (λ (h : HeapLists). h .gaps) E) (omega arith) (omega arith) (omega arith) (omega arith) in
     ((omega arith, omega arith), pop-sinking S (p .0) (p .2))
 
 same-length : tie.Need-same-length
@@ -39,7 +41,7 @@ returns c =
     let a = c .before .before .before .before .before .before .before .before .before .before .before .before .before .before .before .before .before .before .before .args in
     let p = c .before .before .before .before .before .before .before .before .before .before .before .before .before .before .before .before .before .before .before .pre in
     let E = c .before .before .before .before .before .before .before .before .before .before .before .exchange .ensures in
-    let S = exchanged-swap (now (a .nodes)) (now (a .gaps)) 0 (a .n - 1) (E .0) (E .1) (omega arith) (omega arith) (omega arith) (omega arith) in
+    let S = exchanged-swap (now (a .nodes)) (now (a .gaps)) 0 (a .n - 1) (ap (λ (h : HeapLists). h .nodes) E) (ap (λ (h : HeapLists). h .gaps) E) (omega arith) (omega arith) (omega arith) (omega arith) in
     rw (c .before .before .before .before .before .before .before .before .before .before .before .before .before .before .entry-at .ensures) (popped S (p .0) (p .2) (c .before .before .before .before .sink .ensures))
 
 pub pop-spec : {M : Type 1} → statement M

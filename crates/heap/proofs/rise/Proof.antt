@@ -1,10 +1,10 @@
 -- `heap::rise` meets its contract: while the entry is before its parent, the two are exchanged. The measure is its place. Assumes nothing.
-use mathlib.Core.Path.{sym, _∙_}
+use mathlib.Core.Path.{sym, ap, _∙_}
 use Prim.Native.Nat.{_+_, _≤_}
 use native.Mathlib.Omega.{arith}
 use borrow.Author.Needs.{needs}
 use Rattle.heap.specs.Heap.{entryAt}
-use Rattle.heap.specs.Sifts.{Rising}
+use Rattle.heap.specs.Sifts.{HeapLists, Rising}
 use Rattle.heap.proofs.SiftLaws.{Moving, moving, rises-says, risen, rise-turn}
 use Rattle.heap.proofs.rise.Statement.{statement}
 use Rattle.heap.proofs.rise.Tie as tie
@@ -34,7 +34,7 @@ loop-again : tie.Need-loop-again Inv-loop μ-loop
 loop-again c =
     let L = c .before .before .before .before .before .before .before .before .before .before .before .loop in
     let E = c .before .before .before .before .exchange .ensures in
-    let step = rise-turn (L .inv .1) (omega arith) (omega arith) (L .inv .2) (omega arith) (sym (c .before .before .before .before .before .before .before .before .is-rising .ensures) ∙ c .before .before .before .before .before .before .before .if1 .taken) (E .0) (E .1) in
+    let step = rise-turn (L .inv .1) (omega arith) (omega arith) (L .inv .2) (omega arith) (sym (c .before .before .before .before .before .before .before .before .is-rising .ensures) ∙ c .before .before .before .before .before .before .before .if1 .taken) (ap (λ (h : HeapLists). h .nodes) E) (ap (λ (h : HeapLists). h .gaps) E) in
     (omega arith, step .0, step .1)
 
 same-length : tie.Need-same-length Inv-loop μ-loop

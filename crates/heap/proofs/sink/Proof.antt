@@ -1,10 +1,10 @@
 -- `heap::sink` meets its contract: while a child is before the entry, the entry is exchanged with the lesser child. The measure is how many places are past it. Assumes nothing.
-use mathlib.Core.Path.{_≡_, sym, _∙_}
+use mathlib.Core.Path.{_≡_, sym, ap, _∙_}
 use Prim.Native.Nat.{_-_, _≤_}
 use native.Mathlib.Omega.{arith}
 use borrow.Author.Needs.{needs}
 use Rattle.heap.specs.Heap.{entryAt}
-use Rattle.heap.specs.Sifts.{leastOf, Sinking}
+use Rattle.heap.specs.Sifts.{HeapLists, leastOf, Sinking}
 use Rattle.heap.proofs.SiftLaws.{Moving, moving, sunk, least-place, sink-turn}
 use Rattle.heap.proofs.sink.Statement.{statement}
 use Rattle.heap.proofs.sink.Tie as tie
@@ -44,7 +44,7 @@ loop-again c =
     let L = c .before .before .before .before .before .before .before .before .before .before .before .loop in
     let E = c .before .before .before .before .before .before .before .exchange .ensures in
     let at = least-place (L .inv .3) (λ z. c .before .before .before .before .before .before .before .before .before .before .loop-test .taken (L .inv .1 ∙ z)) in
-    let step = sink-turn (L .inv .2) (omega arith) (omega arith) (L .c) (L .inv .1) (c .before .before .before .before .before .before .before .before .before .before .loop-test .taken) (L .inv .3) (E .0) (E .1) in
+    let step = sink-turn (L .inv .2) (omega arith) (omega arith) (L .c) (L .inv .1) (c .before .before .before .before .before .before .before .before .before .before .loop-test .taken) (L .inv .3) (ap (λ (h : HeapLists). h .nodes) E) (ap (λ (h : HeapLists). h .gaps) E) in
     (omega arith, c .least-of2 .ensures, step .0, step .1)
 
 same-length : tie.Need-same-length Inv-loop μ-loop

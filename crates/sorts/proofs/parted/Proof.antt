@@ -1,4 +1,8 @@
 -- `sorts::parted` meets its contract. Assumes nothing.
+use mathlib.Core.Path.{ap₂}
+use mathlib.Core.List.{List}
+use Prim.Native.Nat.{ℕ}
+use Rattle.sorts.specs.Sort.{partedBy}
 use Rattle.sorts.proofs.PartLaws.{parted-is}
 use borrow.Author.Needs.{needs}
 use Rattle.sorts.proofs.parted.Statement.{statement}
@@ -41,7 +45,10 @@ same-length-2 : tie.Need-same-length-2
 same-length-2 c = search needs
 
 returns : tie.Need-returns
-returns c = parted-is _ _ _ _ _ _ _ (c .before .before .before .before .before .before .before .before .before .before .dealt .ensures) (c .before .before .before .before .before .before .before .before .before .before .before .before .before .before .before .before .pre) (c .before .before .copied .ensures)
+unfolding partedBy
+returns c =
+    let q = parted-is _ _ _ _ _ _ _ (c .before .before .before .before .before .before .before .before .before .before .dealt .ensures) (c .before .before .before .before .before .before .before .before .before .before .before .before .before .before .before .before .pre) (c .before .before .copied .ensures) in
+    ap₂ (λ (k : ℕ) (l : List ℕ). record { count = k; list = l }) (q .1) (q .0)
 
 pub parted-spec : {M : Type 1} → statement M
 parted-spec =

@@ -1,6 +1,7 @@
 -- `splits::halve` meets its contract. Assumes nothing.
 use Rattle.sorts.proofs.PartLaws.{parted-halves, halves-parted}
-use mathlib.Core.Path.{sym, _∙_}
+use mathlib.Core.Path.{sym, ap, _∙_}
+use Rattle.sorts.specs.Sort.{Parted, partedBy}
 use borrow.Author.Needs.{needs}
 use Rattle.splits.proofs.halve.Statement.{statement}
 use Rattle.splits.proofs.halve.Tie as tie
@@ -18,9 +19,10 @@ same-length-2 : tie.Need-same-length-2
 same-length-2 c = search needs
 
 returns : tie.Need-returns
+unfolding partedBy
 returns c =
     let q = c .before .before .before .before .before .parted .ensures in
-    q .0 ∙ parted-halves _ _ _ _ _ (c .before .before .before .before .before .before .before .before .before .before .before .before .before .before .before .before .pre .0) (sym (q .1) ∙ c .if1 .taken)
+    ap (λ (o : Parted). o .list) q ∙ parted-halves _ _ _ _ _ (c .before .before .before .before .before .before .before .before .before .before .before .before .before .before .before .before .pre .0) (sym (ap (λ (o : Parted). o .count) q) ∙ c .if1 .taken)
 
 halve-sorted-requires : tie.Need-halve-sorted-requires
 halve-sorted-requires c κs = search needs
@@ -32,7 +34,8 @@ same-length-4 : tie.Need-same-length-4
 same-length-4 c = search needs
 
 returns-2 : tie.Need-returns-2
-returns-2 c = c .before .before .before .before .halve-sorted .ensures ∙ rw (c .before .before .before .before .before .before .before .before .before .before .before .before .parted .ensures .0) (halves-parted _ _ _ _)
+unfolding partedBy
+returns-2 c = c .before .before .before .before .halve-sorted .ensures ∙ rw (ap (λ (o : Parted). o .list) (c .before .before .before .before .before .before .before .before .before .before .before .before .parted .ensures)) (halves-parted _ _ _ _)
 
 pub halve-spec : {M : Type 1} → statement M
 halve-spec =

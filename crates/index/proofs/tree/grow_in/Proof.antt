@@ -1,11 +1,11 @@
 -- `index::tree::grow_in` meets its contract. Assumes nothing.
 use Rattle.index.proofs.GrowLaws.{numbers-ascend, grown-all}
-use Rattle.entries.specs.Entries.{boxCount}
+use Rattle.entries.specs.Entries.{boxCount, WideLists, widenedIn}
 use lib.Seq.{length-take-le, length-front}
 use lib.ListN.{drop}
 use native.Mathlib.Omega.{arith}
 use mathlib.Core.List.{_++_}
-use mathlib.Core.Path.{sym}
+use mathlib.Core.Path.{sym, ap}
 use borrow.Author.Needs.{needs}
 use Rattle.index.proofs.tree.grow_in.Statement.{statement}
 use Rattle.index.proofs.tree.grow_in.Tie as tie
@@ -105,6 +105,7 @@ same-length-7 : tie.Need-same-length-7
 same-length-7 c = search needs
 
 returns : tie.Need-returns
+unfolding widenedIn
 returns c =
     let a = c .before .before .before .before .before .before .before .before .before .before .before .before .before .before .before .before .before .before .before .before .before .before .before .before .before .before .before .before .before .before .before .before .before .before .before .before .before .before .before .before .before .args in
     let P = c .before .before .before .before .before .before .before .before .before .before .before .before .before .before .before .before .before .before .before .before .before .before .before .before .before .before .before .before .before .before .before .before .before .before .before .before .before .before .before .before .before .pre in
@@ -116,7 +117,7 @@ returns c =
     let ly = P .1 .ys in
     let w = c .before .before .before .before .before .before .before .before .before .before .before .before .before .before .before .before .before .before .before .before .before .before .before .before .before .before .before .before .before .widen .ensures in
     grown-all (a .boxes .now) (A .whole) (a .wide .now) (c .before .before .before .before .before .before .before .before .before .before .before .before .before .before .before .before .before .before .before .before .before .before .before .before .before .before .before .before .before .widen .last .1 .0) (a .xs .now) (c .before .before .before .before .before .before .before .before .before .before .before .before .before .before .before .before .before .before .before .before .before .before .before .before .before .before .before .before .before .widen .last .1 .1 .0) (a .ys .now) (c .before .before .before .before .before .before .before .before .before .before .before .before .before .before .before .before .before .before .before .before .before .before .before .before .before .before .before .before .before .widen .last .1 .1 .1 .0)
-    (w .0) (w .1) (w .2) (omega arith) (omega arith) (omega arith) (a .corners .now) _ (a .links .now) _ (a .items .now) (c .before .before .before .before .before .before .before .before .before .before .before .before .before .before .before .before .before .before .before .before .before .count-up .last .0) (c .before .before .before .before .before .before .before .before .build .last .1 .1 .1 .0) _
+    (ap (λ (o : WideLists). o .wide) w) (ap (λ (o : WideLists). o .xs) w) (ap (λ (o : WideLists). o .ys) w) (omega arith) (omega arith) (omega arith) (a .corners .now) _ (a .links .now) _ (a .items .now) (c .before .before .before .before .before .before .before .before .before .before .before .before .before .before .before .before .before .before .before .before .before .count-up .last .0) (c .before .before .before .before .before .before .before .before .build .last .1 .1 .1 .0) _
     (omega arith) (A .corners) (A .links) (A .items) (c .before .before .before .before .before .before .before .before .before .before .before .before .before .before .before .before .before .before .before .before .before .count-up .ensures) (c .before .before .before .before .before .before .before .before .build .ensures)
 
 pub grow-in-spec : {M : Type 1} → statement M
