@@ -10,7 +10,8 @@ use Rattle.splits.specs.Tree.{indexOf}
 use Rattle.index.specs.Buffer.{IndexBuffer, holding, grown, cleared}
 use Rattle.index.proofs.GrowLaws.{grown-lent, holding-cleared}
 use Rattle.index.proofs.Theorems.{index-stands}
-use Rattle.set.specs.Set.{Outline, outlinesOf, setBoxes, Doubles}
+use Rattle.number.specs.Exact.{Doubles}
+use Rattle.set.specs.Set.{Outline, outlinesOf, setBoxes}
 use Rattle.set.specs.Answers.{Ready}
 use Rattle.set.proofs.SetLaws.{outlines-length, doubles-outlines, boxes-tested}
 use Rattle.set.proofs.AskLaws.{boxes-size, boxes-front, boxes-accepted}

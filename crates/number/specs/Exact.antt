@@ -1,11 +1,13 @@
 -- Exact values: which fraction of whole numbers a float is. Definitions only. Assumes nothing.
 use mathlib.Core.Path.{_≡_}
 use mathlib.Core.Bool.{Bool, false, _&&_}
-use Prim.Native.Nat.{ℕ, _^_, _≤_}
+use mathlib.Core.List.{List}
+use Prim.Native.Nat.{ℕ, _^_, _≤_, _<_}
 use lib.Dec.{T}
 use lib.IntN.{ℤ, pos, natAbs}
 use lib.Signed.{leZ}
-use lib.Ieee.{Float, fin, binary64, fits}
+use lib.ListN.{length, getD}
+use lib.Ieee.{Float, nan, fin, binary64, fits}
 use lib.Ieee.Exact.{HasValue}
 use lib.Ieee.Scale.{finite}
 use Rattle.algebra.specs.Sign.{signed}
@@ -26,6 +28,10 @@ pub record Sized (k n : ℕ) (x : Float) (z : ℤ) : Type 0 where
 pub record Held (x : Float) : Type 0 where
   pub fits : T (fits binary64 x)
   pub finite : T (finite x)
+
+-- every number of the list is an `f64`: so it is of every list that a call is lent
+pub record Doubles (v : List Float) : Type 0 where
+  pub each : (i : ℕ) → i < length v → T (fits binary64 (getD v i nan))
 
 -- +0 and 1
 abbrev pub zeroᶠ : Float

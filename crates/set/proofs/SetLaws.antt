@@ -26,7 +26,8 @@ use Rattle.index.specs.Answers.{boxesTested}
 use Rattle.lists.proofs.StoreLaws.{flat-length}
 use Rattle.lists.proofs.RunLaws.{length-run, run-at}
 use Rattle.entries.proofs.EntryLaws.{box-held}
-use Rattle.set.specs.Set.{Outline, startOf, outlineAt, outlinesOf, outlineIn, outlineBox, setBox, setBoxes, Fit, Fitting, Doubles, DoubleSet}
+use Rattle.number.specs.Exact.{Doubles}
+use Rattle.set.specs.Set.{Outline, startOf, outlineAt, outlinesOf, outlineIn, outlineBox, setBox, setBoxes, Fit, Fitting, DoubleSet}
 use Rattle.set.specs.Tests.{addsUp, anyMany, overSize, listsTested, outlinesTested, setTested}
 use Rattle.set.proofs.BoundsLaws.{InField, bounds-spanned, spanned-box, spanned-fits}
 

@@ -3,9 +3,9 @@ use mathlib.Core.Path.{_≡_}
 use mathlib.Core.Bool.{false}
 use mathlib.Core.List.{List, [], flatMap}
 use Prim.Native.Nat.{ℕ, zero, suc, _+_, _*_, _%_, _≤_, _<_}
-use lib.Dec.{T}
 use lib.ListN.{length, getD, take, drop}
-use lib.Ieee.{Float, nan, binary64, fits}
+use lib.Ieee.{Float}
+use Rattle.number.specs.Exact.{Doubles}
 use Rattle.boundary.specs.declared.Bounds.{Bounds}
 use Rattle.lists.specs.Lists.{run, any}
 use Rattle.boundary.specs.Outline.{count, vertices}
@@ -66,10 +66,6 @@ pub record Fitting (os : List Outline) : Type 0 where
   pub some : (k : ℕ) → k < length os → 0 < count (outlineIn os k)
   pub in-field : any outsideField os ≡ false
 
--- every number of the list is an `f64`: so it is of every list that a call is lent
-pub record Doubles (v : List Float) : Type 0 where
-  pub each : (i : ℕ) → i < length v → T (fits binary64 (getD v i nan))
-
--- and of every outline
+-- every number of every outline is an `f64`
 abbrev pub DoubleSet : List Outline → Type 0
 DoubleSet os = (k : ℕ) → k < length os → Doubles (outlineIn os k)
