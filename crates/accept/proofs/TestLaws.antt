@@ -104,13 +104,13 @@ unfolding shapeTested
 tested s = rw (s .even, s .enough, s .few, s .all-finite, s .all-in-field, s .apart, s .nonzero)
 
 -- ---- and test 9
-pub accepted : (v : List Float) → outlineTested v ≡ Passed → shapeTested v ≡ Passed
+pub outline-shape-passed : (v : List Float) → outlineTested v ≡ Passed → shapeTested v ≡ Passed
 unfolding outlineTested
-accepted v e = refusing-passed (shapeTested v) NegativeArea (negativeArea v) e .0
+outline-shape-passed v e = refusing-passed (shapeTested v) NegativeArea (negativeArea v) e .0
 
 -- an accepted outline has vertices, all in the field
 pub accepted-field : (v : List Float) → outlineTested v ≡ Passed → (outsideField v ≡ false) × (0 < count v)
 accepted-field v e =
-    let s = shape v (accepted v e) in
+    let s = shape v (outline-shape-passed v e) in
     let three = ltb-false (count v) 3 (s .enough) in
     (s .all-in-field, omega arith)

@@ -5,7 +5,7 @@ use Rattle.number.specs.Exact.{zeroᶠ}
 use Rattle.boundary.specs.declared.Distance.{Distance}
 use Rattle.boundary.specs.Boxes.{cellOf}
 use Rattle.accept.specs.declared.Answer.{Answer}
-use Rattle.accept.specs.declared.Answer.the-variants.{Refused, Told, Measure, Box, Away}
+use Rattle.accept.specs.declared.Answer.the-variants.{Refused, Count, Measure, Box, DistanceWith}
 use Rattle.accept.specs.declared.BoxFields.{BoxFields}
 use Rattle.accept.specs.declared.CountFields.{CountFields}
 use Rattle.accept.specs.declared.DistanceFields.{DistanceFields}
@@ -21,10 +21,10 @@ noCount n = record { number = n; count = 0 }
 
 abbrev pub countFields : Answer → CountFields
 countFields (Refused r) = noCount (number r)
-countFields (Told n) = record { number = 0; count = n }
+countFields (Count n) = record { number = 0; count = n }
 countFields (Measure x) = noCount 0
 countFields (Box b) = noCount 0
-countFields (Away d) = noCount 0
+countFields (DistanceWith d) = noCount 0
 
 -- a measure
 abbrev pub noMeasure : ℕ → MeasureFields
@@ -32,10 +32,10 @@ noMeasure n = record { number = n; measure = zeroᶠ }
 
 abbrev pub measureFields : Answer → MeasureFields
 measureFields (Refused r) = noMeasure (number r)
-measureFields (Told n) = noMeasure 0
+measureFields (Count n) = noMeasure 0
 measureFields (Measure x) = record { number = 0; measure = x }
 measureFields (Box b) = noMeasure 0
-measureFields (Away d) = noMeasure 0
+measureFields (DistanceWith d) = noMeasure 0
 
 -- a box
 abbrev pub noBox : ℕ → BoxFields
@@ -43,24 +43,24 @@ noBox n = record { number = n; bounds = cellOf zeroᶠ zeroᶠ zeroᶠ zeroᶠ }
 
 abbrev pub boxFields : Answer → BoxFields
 boxFields (Refused r) = noBox (number r)
-boxFields (Told n) = noBox 0
+boxFields (Count n) = noBox 0
 boxFields (Measure x) = noBox 0
 boxFields (Box b) = record { number = 0; bounds = b }
-boxFields (Away d) = noBox 0
+boxFields (DistanceWith d) = noBox 0
 
 -- a distance, with its normal or its nearest point
-abbrev pub away : Float → Float → Float → Distance
-away d x y = record { d = d; v = record { x = x; y = y } }
+abbrev pub distanceOf : Float → Float → Float → Distance
+distanceOf d x y = record { d = d; v = record { x = x; y = y } }
 
 abbrev pub noDistance : ℕ → DistanceFields
-noDistance n = record { number = n; distance = away zeroᶠ zeroᶠ zeroᶠ }
+noDistance n = record { number = n; distance = distanceOf zeroᶠ zeroᶠ zeroᶠ }
 
 abbrev pub distanceFields : Answer → DistanceFields
 distanceFields (Refused r) = noDistance (number r)
-distanceFields (Told n) = noDistance 0
+distanceFields (Count n) = noDistance 0
 distanceFields (Measure x) = noDistance 0
 distanceFields (Box b) = noDistance 0
-distanceFields (Away d) = record { number = 0; distance = d }
+distanceFields (DistanceWith d) = record { number = 0; distance = d }
 
 -- ---- all that a call leaves: its answer, and the lists that it was lent
 pub record Outcome (A B : Type 0) : Type 0 where

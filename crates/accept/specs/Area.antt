@@ -7,12 +7,12 @@ use Rattle.boundary.specs.declared.Edge.{Edge}
 use Rattle.lists.specs.Lists.{total}
 
 -- half the shoelace sum
-abbrev pub crossOf : Edge → Float
-crossOf e = sub binary64 (mul binary64 (e .a .x) (e .b .y)) (mul binary64 (e .b .x) (e .a .y))
+abbrev pub shoelaceTerm : Edge → Float
+shoelaceTerm e = sub binary64 (mul binary64 (e .a .x) (e .b .y)) (mul binary64 (e .b .x) (e .a .y))
 
 abbrev pub two : Float
 two = fin false 1 (pos 1)
 
 unfoldable pub areaOf : List Edge → Float
 unfolding total sub mul div
-areaOf es = div binary64 (total crossOf es) two
+areaOf es = div binary64 (total shoelaceTerm es) two

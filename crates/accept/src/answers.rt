@@ -24,13 +24,13 @@ pub fn count_fields(a: Answer) -> CountFields
 {
     match a {
         Answer::Refused(r) => no_count(refusals::number_of(r)),
-        Answer::Told(n) => CountFields {
+        Answer::Count(n) => CountFields {
             number: 0,
             count: n,
         },
         Answer::Measure(_) => no_count(0),
         Answer::Box(_) => no_count(0),
-        Answer::Away(_) => no_count(0),
+        Answer::DistanceWith(_) => no_count(0),
     }
 }
 
@@ -48,13 +48,13 @@ pub fn measure_fields(a: Answer) -> MeasureFields
 {
     match a {
         Answer::Refused(r) => no_measure(refusals::number_of(r)),
-        Answer::Told(_) => no_measure(0),
+        Answer::Count(_) => no_measure(0),
         Answer::Measure(x) => MeasureFields {
             number: 0,
             measure: x,
         },
         Answer::Box(_) => no_measure(0),
-        Answer::Away(_) => no_measure(0),
+        Answer::DistanceWith(_) => no_measure(0),
     }
 }
 
@@ -73,13 +73,13 @@ pub fn box_fields(a: Answer) -> BoxFields
 {
     match a {
         Answer::Refused(r) => no_box(refusals::number_of(r)),
-        Answer::Told(_) => no_box(0),
+        Answer::Count(_) => no_box(0),
         Answer::Measure(_) => no_box(0),
         Answer::Box(b) => BoxFields {
             number: 0,
             bounds: b,
         },
-        Answer::Away(_) => no_box(0),
+        Answer::DistanceWith(_) => no_box(0),
     }
 }
 
@@ -98,10 +98,10 @@ pub fn distance_fields(a: Answer) -> DistanceFields
 {
     match a {
         Answer::Refused(r) => no_distance(refusals::number_of(r)),
-        Answer::Told(_) => no_distance(0),
+        Answer::Count(_) => no_distance(0),
         Answer::Measure(_) => no_distance(0),
         Answer::Box(_) => no_distance(0),
-        Answer::Away(d) => DistanceFields {
+        Answer::DistanceWith(d) => DistanceFields {
             number: 0,
             distance: d,
         },

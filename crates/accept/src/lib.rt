@@ -39,10 +39,10 @@ pub enum Verdict {
 // or its nearest point.
 pub enum Answer {
     Refused(Refusal),
-    Told(u32),
+    Count(u32),
     Measure(f64),
     Box(Bounds),
-    Away(Distance),
+    DistanceWith(Distance),
 }
 
 // The fields of an answer: what the call returns, and what it puts into the fields that it is lent. A count, a

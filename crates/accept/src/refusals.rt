@@ -10,7 +10,7 @@ ghost use Rattle.lists.specs.Lists.{any};
 ghost use Rattle.boundary.specs.Outline.{edges};
 ghost use Rattle.accept.specs.declared.Refusal.the-variants.{NegativeArea};
 ghost use Rattle.accept.specs.declared.Test.{Test};
-ghost use Rattle.accept.specs.Area.{crossOf, two, areaOf};
+ghost use Rattle.accept.specs.Area.{shoelaceTerm, two, areaOf};
 ghost use Rattle.accept.specs.declared.Verdict.the-variants.{Area, TurnedAway};
 ghost use Rattle.accept.specs.Refusals.{_refusing_when_, given, number, samePoint, negativeArea, equalNeighbours, valuesTested, shapeTested, outlineTested};
 ghost use Rattle.accept.specs.Verdicts.{edgesVerdict, testOf};
@@ -101,8 +101,8 @@ fn any_unfit(v: &[f64], only: bool) -> bool
 }
 
 // An edge's term of the shoelace sum.
-fn cross(e: Edge) -> f64
-    ensures { λ r. ⌜ r ≡ crossOf e ⌝ }
+fn shoelace_term(e: Edge) -> f64
+    ensures { λ r. ⌜ r ≡ shoelaceTerm e ⌝ }
 {
     e.a.x * e.b.y - e.b.x * e.a.y
 }
@@ -119,12 +119,12 @@ fn area_tested(a: f64) -> Verdict
 
 // Tests 7 and 8 of the last edge, where the terms before it come to sum.
 fn last_tested(sum: f64, e: Edge) -> Verdict
-    ensures { λ r. ⌜ r ≡ edgesVerdict (samePoint (e .a) (e .b)) (div binary64 (add binary64 sum (crossOf e)) two) ⌝ }
+    ensures { λ r. ⌜ r ≡ edgesVerdict (samePoint (e .a) (e .b)) (div binary64 (add binary64 sum (shoelaceTerm e)) two) ⌝ }
 {
     if same_point(e.a, e.b) {
         return Verdict::TurnedAway(Refusal::EqualNeighbours);
     }
-    area_tested((sum + cross(e)) / 2.0)
+    area_tested((sum + shoelace_term(e)) / 2.0)
 }
 
 // Tests 7 and 8, in one pass over the edges. Each vertex is read once: the end of one edge is the start of the next.
@@ -144,7 +144,7 @@ fn edges_tested(v: &[f64]) -> Verdict
         if same_point(a, b) {
             return Verdict::TurnedAway(Refusal::EqualNeighbours);
         }
-        sum = sum + cross(Edge { a, b });
+        sum = sum + shoelace_term(Edge { a, b });
         a = b;
         i += 1;
     }

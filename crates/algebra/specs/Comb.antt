@@ -26,16 +26,16 @@ abbrev pub tail : List ℕ → List ℕ
 tail [] = []
 tail (k ∷ ks) = ks
 
-abbrev pub times : (ρ : List ℤ) (ks : List ℕ) (f : Fact) → Side ρ f → Ex
-times ρ ks f s = mul (num (pos (head ks))) (gap ρ f s)
+abbrev pub scaledFact : (ρ : List ℤ) (ks : List ℕ) (f : Fact) → Side ρ f → Ex
+scaledFact ρ ks f s = mul (num (pos (head ks))) (gap ρ f s)
 
-abbrev pub total : (ρ : List ℤ) (fs : List Fact) → Quoted ρ fs → List ℕ → Ex
-total ρ [] q ks = num (pos 0)
-total ρ (f ∷ []) q ks = times ρ ks f q
-total ρ (f ∷ g ∷ []) q ks = add (times ρ ks f (q .this)) (times ρ (tail ks) g (q .others))
-total ρ (f ∷ g ∷ h ∷ []) q ks = add (times ρ ks f (q .this)) (add (times ρ (tail ks) g (q .others .this)) (times ρ (tail (tail ks)) h (q .others .others)))
-total ρ (f ∷ g ∷ h ∷ k ∷ fs) q ks = add (add (times ρ ks f (q .first)) (times ρ (tail ks) g (q .second)))
-    (add (add (times ρ (tail (tail ks)) h (q .third)) (times ρ (tail (tail (tail ks))) k (q .fourth))) (total ρ fs (q .others) (tail (tail (tail (tail ks))))))
+abbrev pub combination : (ρ : List ℤ) (fs : List Fact) → Quoted ρ fs → List ℕ → Ex
+combination ρ [] q ks = num (pos 0)
+combination ρ (f ∷ []) q ks = scaledFact ρ ks f q
+combination ρ (f ∷ g ∷ []) q ks = add (scaledFact ρ ks f (q .this)) (scaledFact ρ (tail ks) g (q .others))
+combination ρ (f ∷ g ∷ h ∷ []) q ks = add (scaledFact ρ ks f (q .this)) (add (scaledFact ρ (tail ks) g (q .others .this)) (scaledFact ρ (tail (tail ks)) h (q .others .others)))
+combination ρ (f ∷ g ∷ h ∷ k ∷ fs) q ks = add (add (scaledFact ρ ks f (q .first)) (scaledFact ρ (tail ks) g (q .second)))
+    (add (add (scaledFact ρ (tail (tail ks)) h (q .third)) (scaledFact ρ (tail (tail (tail ks))) k (q .fourth))) (combination ρ fs (q .others) (tail (tail (tail (tail ks))))))
 
 -- ---- soundness
 add-nonneg : {x y : ℤ} → pos 0 ≦ x → pos 0 ≦ y → pos 0 ≦ x +ℤ y
@@ -52,10 +52,10 @@ gap-nonneg ρ (le {x = x} {y = y} h) s = diff (val (s .left .ex) ρ) (val (s .ri
 gap-nonneg ρ (lt {x = x} {y = y} h) s = diff-lt (val (s .left .ex) ρ) (val (s .right .ex) ρ) x y (s .left .is) (s .right .is) h
 gap-nonneg ρ (eq {x = x} {y = y} h) s = diff (val (s .left .ex) ρ) (val (s .right .ex) ρ) x y (s .left .is) (s .right .is) (≤ℤ-of-eq h)
 
-times-nonneg : (ρ : List ℤ) (ks : List ℕ) (f : Fact) (s : Side ρ f) → pos 0 ≦ val (times ρ ks f s) ρ
+times-nonneg : (ρ : List ℤ) (ks : List ℕ) (f : Fact) (s : Side ρ f) → pos 0 ≦ val (scaledFact ρ ks f s) ρ
 times-nonneg ρ ks f s = mul-nonneg (pos-nonneg (head ks)) (gap-nonneg ρ f s)
 
-total-nonneg : (ρ : List ℤ) (fs : List Fact) (q : Quoted ρ fs) (ks : List ℕ) → pos 0 ≦ val (total ρ fs q ks) ρ
+total-nonneg : (ρ : List ℤ) (fs : List Fact) (q : Quoted ρ fs) (ks : List ℕ) → pos 0 ≦ val (combination ρ fs q ks) ρ
 total-nonneg ρ [] q ks = pos-nonneg 0
 total-nonneg ρ (f ∷ []) q ks = times-nonneg ρ ks f q
 total-nonneg ρ (f ∷ g ∷ []) q ks = add-nonneg (times-nonneg ρ ks f (q .this)) (times-nonneg ρ (tail ks) g (q .others))
@@ -67,6 +67,6 @@ finish : (x y a b t : ℤ) (c : ℕ) → x ≡ a → y ≡ b → pos 0 ≦ t →
 finish x y a b t c p q h e = omega (ord, add-parts y (negℤ x), posPart-neg x, negPart-neg x, add-parts t (pos c), ap posPart p, ap negPart p, ap posPart q, ap negPart q, ap posPart e, ap negPart e)
 
 -- ---- the theorems
-pub le-comb : (ρ : List ℤ) (fs : List Fact) (ks : List ℕ) (c : ℕ) {x y : ℤ} (q : Both (Sides ρ x y) (Quoted ρ fs)) → Same (add (q .this .right .ex) (neg (q .this .left .ex))) (add (total ρ fs (q .others) ks) (num (pos c))) → x ≦ y
-le-comb ρ fs ks c {x} {y} q t = finish (val (q .this .left .ex) ρ) (val (q .this .right .ex) ρ) x y (val (total ρ fs (q .others) ks) ρ) c (q .this .left .is) (q .this .right .is)
-    (total-nonneg ρ fs (q .others) ks) (ring-eq ρ (add (q .this .right .ex) (neg (q .this .left .ex))) (add (total ρ fs (q .others) ks) (num (pos c))) t)
+pub le-comb : (ρ : List ℤ) (fs : List Fact) (ks : List ℕ) (c : ℕ) {x y : ℤ} (q : Both (Sides ρ x y) (Quoted ρ fs)) → Same (add (q .this .right .ex) (neg (q .this .left .ex))) (add (combination ρ fs (q .others) ks) (num (pos c))) → x ≦ y
+le-comb ρ fs ks c {x} {y} q t = finish (val (q .this .left .ex) ρ) (val (q .this .right .ex) ρ) x y (val (combination ρ fs (q .others) ks) ρ) c (q .this .left .is) (q .this .right .is)
+    (total-nonneg ρ fs (q .others) ks) (ring-eq ρ (add (q .this .right .ex) (neg (q .this .left .ex))) (add (combination ρ fs (q .others) ks) (num (pos c))) t)

@@ -9,11 +9,11 @@ use Rattle.lists.specs.Lists.{fold, any}
 
 module _ {A : Type 0} (p : A → Bool) where
   -- a search from the first member on: member i passes, or the search goes on
-  abbrev pub step : Bool → A → Bool
-  step b x = b || p x
+  abbrev pub anyStep : Bool → A → Bool
+  anyStep b x = b || p x
 
-  pub found-at : (d : A) (xs : List A) (i : ℕ) → i < length xs → fold step false (drop i xs) ≡ any p xs → p (getD xs i d) ≡ true → true ≡ any p xs
-  found-at d xs i l e h = sym (ap (λ (b : Bool). fold step b (drop (i + 1) xs)) h ∙ any-from p true (drop (i + 1) xs)) ∙ sym (fold-drop-next step d false xs i l) ∙ e
+  pub found-at : (d : A) (xs : List A) (i : ℕ) → i < length xs → fold anyStep false (drop i xs) ≡ any p xs → p (getD xs i d) ≡ true → true ≡ any p xs
+  found-at d xs i l e h = sym (ap (λ (b : Bool). fold anyStep b (drop (i + 1) xs)) h ∙ any-from p true (drop (i + 1) xs)) ∙ sym (fold-drop-next anyStep d false xs i l) ∙ e
 
-  pub missed-at : (d : A) (xs : List A) (i : ℕ) → i < length xs → fold step false (drop i xs) ≡ any p xs → p (getD xs i d) ≡ false → fold step false (drop (i + 1) xs) ≡ any p xs
-  missed-at d xs i l e h = sym (ap (λ (b : Bool). fold step b (drop (i + 1) xs)) h) ∙ sym (fold-drop-next step d false xs i l) ∙ e
+  pub missed-at : (d : A) (xs : List A) (i : ℕ) → i < length xs → fold anyStep false (drop i xs) ≡ any p xs → p (getD xs i d) ≡ false → fold anyStep false (drop (i + 1) xs) ≡ any p xs
+  missed-at d xs i l e h = sym (ap (λ (b : Bool). fold anyStep b (drop (i + 1) xs)) h) ∙ sym (fold-drop-next anyStep d false xs i l) ∙ e

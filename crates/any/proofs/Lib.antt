@@ -5,4 +5,4 @@ pub mod AnyLaws
 -- What `any_at` lists, and its answer.
 pub mod ListedLaws
 -- What `any_at` tells.
-pub mod Theorems
+pub mod AnyAt

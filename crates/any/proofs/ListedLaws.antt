@@ -9,11 +9,11 @@ use lib.ListN.{length, take, drop}
 use lib.Seq.{sets, take-at}
 use lib.Ieee.{Float}
 use Rattle.boundary.specs.declared.Point.{Point}
-use Rattle.boundary.specs.Boxes.{spot}
+use Rattle.boundary.specs.Boxes.{pointBox}
 use Rattle.lists.specs.Lists.{any, atFront}
 use Rattle.accept.specs.declared.Test.the-variants.{Passed}
 use Rattle.accept.specs.Answers.{Outcome}
-use Rattle.splits.specs.Tree.{indexOf}
+use Rattle.tree.specs.Tree.{indexOf}
 use Rattle.index.specs.Buffer.{IndexBuffer}
 use Rattle.index.specs.Answers.{boxesTested, Accepted}
 use Rattle.index.proofs.GrowLaws.{length-index-items}
@@ -40,8 +40,8 @@ module _ (v : List Float) (cs : List ℕ) (p : Point) (B : IndexBuffer) (ready :
   pub ready-listed : Accepted front (length (B .corners)) (length (B .links)) (length (B .items)) × (boxesTested front ≡ Passed)
   ready-listed = rw front-is (boxes-accepted v cs B ready, boxes-tested os (ready .fitting))
 
-  module _ (S : List ℕ) (r : ℕ) (B′ : IndexBuffer) (S′ : List ℕ) (listed : record { answer = r; lent = record { buffer = B′; list = S′ } } ≡ listing front (spot p) B S) where
-    set-listed : record { answer = r; lent = record { buffer = B′; list = S′ } } ≡ listing (setBoxes os) (spot p) B S
+  module _ (S : List ℕ) (r : ℕ) (B′ : IndexBuffer) (S′ : List ℕ) (listed : record { answer = r; lent = record { buffer = B′; list = S′ } } ≡ listing front (pointBox p) B S) where
+    set-listed : record { answer = r; lent = record { buffer = B′; list = S′ } } ≡ listing (setBoxes os) (pointBox p) B S
     set-listed = rw front-is at listed
 
     count-is : r ≡ length (listedAt os p)
@@ -54,7 +54,7 @@ module _ (v : List Float) (cs : List ℕ) (p : Point) (B : IndexBuffer) (ready :
         let b = boxes-size v cs in
         let s = ready .fit .size in
         let k = count-is in
-        let m = length-meeting (spot p) (indexOf (setBoxes os)) in
+        let m = length-meeting (pointBox p) (indexOf (setBoxes os)) in
         let i = length-index-items (setBoxes os) in
         omega arith
 
@@ -62,7 +62,7 @@ module _ (v : List Float) (cs : List ℕ) (p : Point) (B : IndexBuffer) (ready :
     unfolding listing listedAt atFront
     list-is =
         let l = ap (λ (o : Outcome ℕ MeetingLent). o .lent .list) set-listed in
-        let M = meetingOf (spot p) (indexOf (setBoxes os)) in
+        let M = meetingOf (pointBox p) (indexOf (setBoxes os)) in
         rw (sub-zero r, l, count-is) (take-at M (drop (length M) S) (length M) refl)
 
     pub answered-of : (a : Bool) → a ≡ any (containsIn os p) (take (r - 0) (drop 0 S′)) → record { answer = a; lent = B′ } ≡ worked (anyAt os p) B

@@ -157,7 +157,7 @@ pub fn any_at(
     let t = refusals::query_tested(v, counts, p, corners, links, items);
     match t {
         Test::Passed => {
-            Answer::Told(if any_of(v, counts, p, corners, links, items) {
+            Answer::Count(if any_of(v, counts, p, corners, links, items) {
                 1
             } else {
                 0

@@ -28,7 +28,7 @@ use Rattle.number.proofs.Basics.{one-of}
 use Rattle.boundary.specs.declared.Point.{Point}
 use Rattle.boundary.specs.declared.Edge.{Edge}
 use Rattle.boundary.specs.Line.{paramOf, alongOf}
-use Rattle.boundary.specs.Boxes.{FieldValue, FieldPoint, FieldEdge, Between, Share, lesser, greater, hair}
+use Rattle.boundary.specs.Boxes.{FieldValue, FieldPoint, FieldEdge, Between, Share, lesser, greater, leastMargin}
 use Rattle.boundary.proofs.FieldLaws.{field-held, field-is, field-not-nan, way-of, field-sub}
 
 -- ---- where on the edge the nearest point is: t is from 0 to 1, and no NaN, over whatever squared length
@@ -123,7 +123,7 @@ share-of {t} {x} {E} s h size F =
     turns t E h g = le-from (t ∷ E ∷ []) (Lin.le (mul-le h g) ∷ []) (search quote depth 30) (omega arith)
 
 -- for every widening from 2 ^ -31 on, and every lo to hi that has both ends
-pub along-inside : {a b t w lo hi : Float} → FieldValue a → FieldValue b → Share t → Held w → T (le hair w) → Held lo → Held hi → Between lo a hi → Between lo b hi
+pub along-inside : {a b t w lo hi : Float} → FieldValue a → FieldValue b → Share t → Held w → T (le leastMargin w) → Held lo → Held hi → Between lo a hi → Between lo b hi
     → Between (sub binary64 lo w) (alongOf a b t) (add binary64 hi w)
 unfolding alongOf
 along-inside {a} {b} {t} {w} {lo} {hi} fa fb s hw W hlo hhi ba bb =
@@ -133,7 +133,7 @@ along-inside {a} {b} {t} {w} {lo} {hi} fa fb s hw W hlo hhi ba bb =
     let h = finite-is hhi in
     let v = finite-is hw in
     let e0 : pos 0 ≦ pos (2 ^ 1043) = record { le = tt } in
-    let eW : pos (2 ^ 1043) ≦ v .0 = is-order (equation→is hair refl) (v .1) W in
+    let eW : pos (2 ^ 1043) ≦ v .0 = is-order (equation→is leastMargin refl) (v .1) W in
     let a-in = in-units (l .1) (A .1 .is) (h .1) ba in
     let b-in = in-units (l .1) (B .1 .is) (h .1) bb in
     let way = way-of fa fb in
@@ -168,7 +168,7 @@ ends-between a b p q = (record { low = low-a (lt b a) refl; high = high-a (lt a 
     high-b false e = not-below a b p q e
 
 -- between the ends, widened
-pub along-widened : {a b t w : Float} → FieldValue a → FieldValue b → Share t → Held w → T (le hair w) → Between (sub binary64 (lesser a b) w) (alongOf a b t) (add binary64 (greater a b) w)
+pub along-widened : {a b t w : Float} → FieldValue a → FieldValue b → Share t → Held w → T (le leastMargin w) → Between (sub binary64 (lesser a b) w) (alongOf a b t) (add binary64 (greater a b) w)
 along-widened {a} {b} fa fb s hw W =
     let ends = ends-between a b (field-not-nan fa) (field-not-nan fb) in
     along-inside fa fb s hw W (one-of Held (lt b a) (field-held fb) (field-held fa)) (one-of Held (lt a b) (field-held fb) (field-held fa)) (ends .0) (ends .1)
@@ -185,12 +185,12 @@ between-held {lo} {q} {hi} l h F i = record { fits = F; finite = finite-between 
 -- at most 2 ^ 21 and a little
 along-sized : {a b t : Float} → FieldValue a → FieldValue b → Share t → (z : ℤ) × Sized 1074 (2 * (2 ^ 1094 + 2 ^ 1043) + 1) (alongOf a b t) z
 along-sized {a} {b} {t} fa fb s =
-    let fine : Held hair = record { fits = unfold fits in tt; finite = tt } in
-    let moved : Sized 1074 (2 ^ 1043) hair (pos (2 ^ 1043)) = record { is = equation→is hair refl; near = lit≤ tt } in
-    let i = along-widened fa fb s fine (le-self hair (held-not-nan fine)) in
+    let fine : Held leastMargin = record { fits = unfold fits in tt; finite = tt } in
+    let moved : Sized 1074 (2 ^ 1043) leastMargin (pos (2 ^ 1043)) = record { is = equation→is leastMargin refl; near = lit≤ tt } in
+    let i = along-widened fa fb s fine (le-self leastMargin (held-not-nan fine)) in
     let l = sub-grown (field-is (one-of FieldValue (lt b a) fb fa) .1) moved (lit≤ tt) in
     let h = add-grown (field-is (one-of FieldValue (lt a b) fb fa) .1) moved (lit≤ tt) in
-    let q = finite-is (between-held (is-held (l .1 .is) (sub-fits binary64 (lesser a b) hair)) (is-held (h .1 .is) (add-fits binary64 (greater a b) hair)) (along-fits a b t (fb .fits)) i) in (
+    let q = finite-is (between-held (is-held (l .1 .is) (sub-fits binary64 (lesser a b) leastMargin)) (is-held (h .1 .is) (add-fits binary64 (greater a b) leastMargin)) (along-fits a b t (fb .fits)) i) in (
       q .0,
       record {
         is = q .1;

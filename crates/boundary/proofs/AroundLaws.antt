@@ -4,16 +4,16 @@ use lib.Dec.{T}
 use lib.Ieee.{Float, nan, inf, fin, lt, le, isNan}
 use Rattle.number.proofs.OrderLaws.{le-self, le-through}
 use Rattle.boundary.specs.declared.Bounds.{Bounds}
-use Rattle.boundary.specs.Boxes.{BoxOf, Around, hull, nowhere}
+use Rattle.boundary.specs.Boxes.{BoxOf, Around, hull, emptyBox}
 use Rattle.number.proofs.Basics.{one-of}
 use Rattle.boundary.proofs.AlongLaws.{ends-between}
 
 -- ---- boxes without NaN
-abbrev pub Number : Float → Type 0
-Number x = T (not (isNan x))
+abbrev pub NotNan : Float → Type 0
+NotNan x = T (not (isNan x))
 
 abbrev pub NumberBox : Bounds → Type 0
-NumberBox b = BoxOf Number b
+NumberBox b = BoxOf NotNan b
 
 -- ---- boxes around boxes
 pub around-self : (b : Bounds) → NumberBox b → Around b b
@@ -31,8 +31,8 @@ module _ (a b : Bounds) (A : NumberBox a) (B : NumberBox b) where
   pub hull-number : NumberBox (hull a b)
   unfolding hull
   hull-number = record {
-    min = record { x = one-of Number (lt (b .min .x) (a .min .x)) (B .min .x) (A .min .x); y = one-of Number (lt (b .min .y) (a .min .y)) (B .min .y) (A .min .y) };
-    max = record { x = one-of Number (lt (a .max .x) (b .max .x)) (B .max .x) (A .max .x); y = one-of Number (lt (a .max .y) (b .max .y)) (B .max .y) (A .max .y) };
+    min = record { x = one-of NotNan (lt (b .min .x) (a .min .x)) (B .min .x) (A .min .x); y = one-of NotNan (lt (b .min .y) (a .min .y)) (B .min .y) (A .min .y) };
+    max = record { x = one-of NotNan (lt (a .max .x) (b .max .x)) (B .max .x) (A .max .x); y = one-of NotNan (lt (a .max .y) (b .max .y)) (B .max .y) (A .max .y) };
   }
 
   pub hull-around : Around (hull a b) a × Around (hull a b) b
@@ -54,23 +54,23 @@ hull-within n a b p q = record {
   top = one-of (λ x. T (le x (n .max .y))) (lt (a .max .y) (b .max .y)) (q .top) (p .top);
 }
 
-most : (x : Float) → Number x → T (le x (inf false))
+most : (x : Float) → NotNan x → T (le x (inf false))
 unfolding le lt isNan
 most nan n = absurd n
 most (inf true) n = tt
 most (inf false) n = tt
 most (fin s m e) n = tt
 
-pub least : (x : Float) → Number x → T (le (inf true) x)
+pub least : (x : Float) → NotNan x → T (le (inf true) x)
 unfolding le lt isNan
 least nan n = absurd n
 least (inf true) n = tt
 least (inf false) n = tt
 least (fin s m e) n = tt
 
-pub around-nowhere : (n : Bounds) → NumberBox n → Around n nowhere
+pub around-nowhere : (n : Bounds) → NumberBox n → Around n emptyBox
 around-nowhere n N = record { left = most (n .min .x) (N .min .x); right = least (n .max .x) (N .max .x); bottom = most (n .min .y) (N .min .y); top = least (n .max .y) (N .max .y) }
 
-pub nowhere-number : NumberBox nowhere
+pub nowhere-number : NumberBox emptyBox
 unfolding isNan
 nowhere-number = record { min = record { x = tt; y = tt }; max = record { x = tt; y = tt } }

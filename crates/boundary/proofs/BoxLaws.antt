@@ -29,7 +29,7 @@ use Rattle.boundary.specs.declared.Point.{Point}
 use Rattle.boundary.specs.declared.Edge.{Edge}
 use Rattle.boundary.specs.declared.Bounds.{Bounds}
 use Rattle.boundary.specs.Line.{alongOf, footOf}
-use Rattle.boundary.specs.Boxes.{FieldValue, FieldPoint, FieldEdge, FieldBox, FiniteBox, Between, Share, Inside, lesser, greater, hull, edgeBox, hair, nano, scaleOf, widenedBy, widenedOf, Around, gapAlong}
+use Rattle.boundary.specs.Boxes.{FieldValue, FieldPoint, FieldEdge, FieldBox, FiniteBox, Between, Share, Inside, lesser, greater, hull, edgeBox, leastMargin, nano, scaleOf, widenedBy, widenedOf, Around, gapAlong}
 use Rattle.boundary.proofs.FieldLaws.{field-held, field-is, field-box-finite, field-not-nan, is-field, field-abs, field-sub, field-add, widened-finite}
 use Rattle.number.proofs.Basics.{one-of}
 use Rattle.boundary.proofs.AlongLaws.{param-share, along-inside, along-widened, ends-between, along-fits, between-held, along-short}
@@ -52,7 +52,7 @@ edge-box-ends {e} E =
 
 -- ---- the nearest point lies in the widened box
 
-pub foot-widened : {e : Edge} {p : Point} {b : Bounds} {w : Float} → FieldEdge e → FieldPoint p → FiniteBox b → Held w → T (le hair w) → Inside (e .a) b → Inside (e .b) b → Inside (footOf e p) (widenedBy w b)
+pub foot-widened : {e : Edge} {p : Point} {b : Bounds} {w : Float} → FieldEdge e → FieldPoint p → FiniteBox b → Held w → T (le leastMargin w) → Inside (e .a) b → Inside (e .b) b → Inside (footOf e p) (widenedBy w b)
 unfolding footOf
 foot-widened E P B hw W ia ib =
     let t = param-share E P in record {
@@ -91,11 +91,11 @@ widening-field {b} B =
     let m = mul-result nano-is (z .1 .is) (le-trans small (lit≤ tt)) in
     is-field (record { is = m .is; near = le-trans (rounded-natAbs (2 ^ 1070) (pow-pos 1074) (m .rnd) (rw (natAbs-mul (pos nanoUnits) (z .0)) (le-trans small (lit≤ tt)))) (lit≤ tt) }) (mul-fits binary64 nano (scaleOf b))
 
-pub widening-hair : {b : Bounds} → FieldBox b → T (le hair (mul binary64 nano (scaleOf b)))
+pub widening-hair : {b : Bounds} → FieldBox b → T (le leastMargin (mul binary64 nano (scaleOf b)))
 widening-hair B =
     let s = scale-of B in
     let z = field-is (s .field) in
-    rounds-order (is-rounds {k = 1074} {z = pos (2 ^ 1043)} (equation→is hair refl) (unfold fits in tt)) (mul-rounds nano-is (z .1 .is))
+    rounds-order (is-rounds {k = 1074} {z = pos (2 ^ 1043)} (equation→is leastMargin refl) (unfold fits in tt)) (mul-rounds nano-is (z .1 .is))
     (above (pos (2 ^ 1043)) (pos nanoUnits) (z .0) (pos (2 ^ 1074)) (record { le = tt }) (record { le = tt }) (record { le = tt }) (is-order (equation→is one refl) (z .1 .is) (s .least)))
   where
     above : (h n m u : ℤ) → pos 0 ≦ u → pos 0 ≦ n → h ≦ n → u ≦ m → h *ℤ (u *ℤ u) ≦ n *ℤ m *ℤ u
@@ -129,7 +129,7 @@ pub widened-around : {b : Bounds} → FieldBox b → Around (widenedOf b) b
 unfolding widenedOf
 widened-around {b} B =
     let w = widening-field B in
-    let positive : T (le zeroᶠ (mul binary64 nano (scaleOf b))) = le-through zeroᶠ hair (mul binary64 nano (scaleOf b)) (unfold le in tt) (widening-hair B) in
+    let positive : T (le zeroᶠ (mul binary64 nano (scaleOf b))) = le-through zeroᶠ leastMargin (mul binary64 nano (scaleOf b)) (unfold le in tt) (widening-hair B) in
     record {
       left = less-below (B .min .x) w positive;
       right = more-above (B .max .x) w positive;
@@ -199,7 +199,7 @@ module _ {lo hi p q : Float} (L : Held lo) (H : Held hi) (P : Held p) (Q : Held 
       abs-at-most out (absOf d) out-nonneg (one-of below-d (lt (greater (sub binary64 lo p) (sub binary64 p hi)) zeroᶠ) (abs-nonneg d d-number) (one-of below-d (lt (sub binary64 lo p) (sub binary64 p hi)) above below))
 
 -- of an edge's ends, widened by any value of the field from 2 ^ -31 on, and the point at t
-pub along-out : {a b p t w : Float} → FieldValue a → FieldValue b → FieldValue p → Share t → FieldValue w → T (le hair w)
+pub along-out : {a b p t w : Float} → FieldValue a → FieldValue b → FieldValue p → Share t → FieldValue w → T (le leastMargin w)
     → T (le (absOf (greater (greater (sub binary64 (sub binary64 (lesser a b) w) p) (sub binary64 p (add binary64 (greater a b) w))) zeroᶠ)) (absOf (sub binary64 p (alongOf a b t))))
 along-out {a} {b} {p} {t} fa fb fp s fw W =
     let l = field-sub (one-of FieldValue (lt b a) fb fa) fw .held in

@@ -15,11 +15,11 @@ use Rattle.boundary.specs.declared.Bounds.{Bounds}
 use Rattle.boundary.specs.Boxes.{FieldPoint, FieldEdge, FieldBox, DoubleBox, Between, Inside, Around, widenedOf, gapAlong, gapOf}
 use Rattle.boundary.specs.Line.{paramOf, footOf, lineNear}
 use Rattle.boundary.proofs.AlongLaws.{along-fits, between-held}
-use Rattle.boundary.proofs.AroundLaws.{Number, least}
+use Rattle.boundary.proofs.AroundLaws.{NotNan, least}
 use Rattle.boundary.proofs.BoxLaws.{foot-inside, around-inside, widened-box-finite, gap-along}
 use Rattle.boundary.proofs.FieldLaws.{field-held}
 
-difference-number : {a b : Float} → Held a → Held b → Number (sub binary64 a b)
+difference-number : {a b : Float} → Held a → Held b → NotNan (sub binary64 a b)
 difference-number A B = rounds-not-nan (sub-rounds (finite-is A .1) (finite-is B .1))
 
 -- ---- of one axis: p and q are finite, and q is between lo and hi
@@ -27,10 +27,10 @@ module _ {p q : Float} (P : Held p) (Q : Held q) where
   abbrev d : Float
   d = sub binary64 p q
 
-  d-number : Number d
+  d-number : NotNan d
   d-number = difference-number P Q
 
-  size-number : Number (absOf d)
+  size-number : NotNan (absOf d)
   size-number = right-not-nan zeroᶠ (absOf d) (abs-nonneg d d-number)
 
   self : T (le q q)
@@ -43,7 +43,7 @@ module _ {p q : Float} (P : Held p) (Q : Held q) where
       let a = sub binary64 lo p in
       let n = difference-number L P in
       le-through a (gapAlong lo q p) (absOf d)
-      (le-through a (maxOf a d) (gapAlong lo q p) (le-max-left a d n d-number) (le-max-left (maxOf a d) zeroᶠ (max-one-of Number {x = a} {y = d} n d-number) (unfold isNan in tt)))
+      (le-through a (maxOf a d) (gapAlong lo q p) (le-max-left a d n d-number) (le-max-left (maxOf a d) zeroᶠ (max-one-of NotNan {x = a} {y = d} n d-number) (unfold isNan in tt)))
       (gap-along L Q P Q (record { low = h; high = self }))
 
   high-finite : {hi : Float} → Held hi → T (le q hi) → T (le (sub binary64 p hi) (absOf d))
@@ -54,17 +54,17 @@ module _ {p q : Float} (P : Held p) (Q : Held q) where
       let n = difference-number Q P in
       let m = difference-number P H in
       le-through b (gapAlong q hi p) (absOf d)
-      (le-through b (maxOf a b) (gapAlong q hi p) (le-max-right a b m) (le-max-left (maxOf a b) zeroᶠ (max-one-of Number {x = a} {y = b} n m) (unfold isNan in tt)))
+      (le-through b (maxOf a b) (gapAlong q hi p) (le-max-right a b m) (le-max-left (maxOf a b) zeroᶠ (max-one-of NotNan {x = a} {y = b} n m) (unfold isNan in tt)))
       (gap-along Q H P Q (record { low = self; high = h }))
 
   -- an infinite one
-  infinite-low : (p : Float) → T (finite p) → (x : Float) → Number x → T (le (sub binary64 (inf true) p) x)
+  infinite-low : (p : Float) → T (finite p) → (x : Float) → NotNan x → T (le (sub binary64 (inf true) p) x)
   unfolding sub add neg
   infinite-low nan f x n = absurd f
   infinite-low (inf s) f x n = absurd f
   infinite-low (fin s m e) f x n = least x n
 
-  infinite-high : (p : Float) → T (finite p) → (x : Float) → Number x → T (le (sub binary64 p (inf false)) x)
+  infinite-high : (p : Float) → T (finite p) → (x : Float) → NotNan x → T (le (sub binary64 p (inf false)) x)
   unfolding sub add neg
   infinite-high nan f x n = absurd f
   infinite-high (inf s) f x n = absurd f

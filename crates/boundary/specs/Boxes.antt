@@ -102,11 +102,11 @@ hull a b = record {
 }
 
 -- the box with nothing in it, and the box of one point
-abbrev pub nowhere : Bounds
-nowhere = record { min = record { x = inf false; y = inf false }; max = record { x = inf true; y = inf true } }
+abbrev pub emptyBox : Bounds
+emptyBox = record { min = record { x = inf false; y = inf false }; max = record { x = inf true; y = inf true } }
 
-abbrev pub spot : Point → Bounds
-spot p = record { min = p; max = p }
+abbrev pub pointBox : Point → Bounds
+pointBox p = record { min = p; max = p }
 
 -- the box of four numbers, as a call is given it
 abbrev pub cellOf : Float → Float → Float → Float → Bounds
@@ -114,20 +114,20 @@ cellOf left bottom right top = record { min = record { x = left; y = bottom }; m
 
 -- the box stretched to a point
 abbrev pub stretched : Bounds → Point → Bounds
-stretched b p = hull b (spot p)
+stretched b p = hull b (pointBox p)
 
 -- the box of an edge
 unfoldable pub edgeBox : Edge → Bounds
 unfolding hull
-edgeBox e = hull (spot (e .a)) (spot (e .b))
+edgeBox e = hull (pointBox (e .a)) (pointBox (e .b))
 
 -- ---- `widened`: by 10⁻⁹ of the largest of 1 and the corners' magnitudes
 abbrev pub nano : Float
 nano = fin false 4835703278458517 (negsuc 81)
 
 -- 2 ^ -31: a box widened by that much or more has the nearest point of every edge that lies in the box
-abbrev pub hair : Float
-hair = fin false 1 (negsuc 30)
+abbrev pub leastMargin : Float
+leastMargin = fin false 1 (negsuc 30)
 
 unfoldable pub scaleOf : Bounds → Float
 scaleOf b = maxOf (maxOf (maxOf (maxOf one (absOf (b .min .x))) (absOf (b .min .y))) (absOf (b .max .x))) (absOf (b .max .y))

@@ -1,5 +1,5 @@
 // An outline's points and edges, and what boundary.rs works out from them.
-pub mod boxes;
+pub mod hulls;
 pub mod line;
 
 ghost use mathlib.Core.Path.{_≡_};

@@ -12,10 +12,10 @@ use lib.Ieee.{Float, nan}
 use Rattle.boundary.specs.declared.Edge.{Edge}
 use Rattle.lists.proofs.RunLaws.{run-last, run-same}
 use Rattle.lists.specs.Lists.{run}
-use Rattle.clip.specs.declared.Pen.{Pen}
+use Rattle.clip.specs.declared.PathEnds.{PathEnds}
 use Rattle.clip.specs.declared.State.{State}
-use Rattle.clip.specs.Passes.{Path, if-on, lineOf, joinsOf, movedOf, followed, nothing, nowhere, closed}
-use Rattle.clip.specs.Lent.{lineAt, lineIn, linesFrom, putAt, apart, Beside, Holds, Tracks}
+use Rattle.clip.specs.Passes.{Path, if-on, lineBetween, joinsOf, movedOf, followed, nothing, unbegun, closedPath}
+use Rattle.clip.specs.Lent.{lineAt, lineIn, linesFrom, putAt, disjoint, Beside, Holds, Tracks}
 
 -- ---- nothing changed but a range
 module _ {to size : ℕ} where
@@ -48,16 +48,16 @@ module _ {to size : ℕ} {w v : List Float} (b : Beside to size w v) where
       (λ i h. getD-drop o v i nan ∙ b .keeps (o + i) (inr (omega arith)) ∙ sym (getD-drop o w i nan))
 
   -- a line that stands apart from it
-  line-kept : (o : ℕ) → apart o 4 to size → lineAt v o ≡ lineAt w o
+  line-kept : (o : ℕ) → disjoint o 4 to size → lineAt v o ≡ lineAt w o
   line-kept o h =
       let k : (j : ℕ) → j < 4 → getD v (o + j) nan ≡ getD w (o + j) nan = λ j l. b .keeps (o + j) (⊎-elim (λ (p : o + 4 ≤ to). inl (omega arith)) (λ (p : to + size ≤ o). inr (omega arith)) h) in
       let z : getD v o nan ≡ getD w o nan = b .keeps o (⊎-elim (λ (p : o + 4 ≤ to). inl (omega arith)) (λ (p : to + size ≤ o). inr (omega arith)) h) in
       rw (z, k 1 (omega arith), k 2 (omega arith), k 3 (omega arith))
 
-  pub line-in-kept : (from n i : ℕ) → apart from (4 * n) to size → i < n → lineIn v from i ≡ lineIn w from i
+  pub line-in-kept : (from n i : ℕ) → disjoint from (4 * n) to size → i < n → lineIn v from i ≡ lineIn w from i
   line-in-kept from n i h l = line-kept (from + 4 * i) (⊎-elim (λ (p : from + 4 * n ≤ to). inl (omega arith)) (λ (p : to + size ≤ from). inr (omega arith)) h)
 
-  pub lines-kept : (from n lo k : ℕ) → apart from (4 * n) to size → lo + k ≤ n → linesFrom v from lo k ≡ linesFrom w from lo k
+  pub lines-kept : (from n lo k : ℕ) → disjoint from (4 * n) to size → lo + k ≤ n → linesFrom v from lo k ≡ linesFrom w from lo k
   lines-kept from n lo k h l = run-same (lineIn v from) (lineIn w from) lo k (λ i m. line-in-kept from n i h (omega arith))
 
 -- ---- a list of lines grows at its end
@@ -96,8 +96,8 @@ module _ {to room : ℕ} {w : List Float} {n : ℕ} {es : List Edge} (h : Holds 
   longer : (e : Edge) → length (es ++ (e ∷ [])) ≡ n + 1
   longer e = omega (arith, length-append es (e ∷ []), h .count)
 
-  pub over : (e : Edge) → room ≤ n → Holds to room w (n + 1) (es ++ (e ∷ []))
-  over e r = record { count = longer e; list = λ k. absurd (omega arith) }
+  pub beyond-room : (e : Edge) → room ≤ n → Holds to room w (n + 1) (es ++ (e ∷ []))
+  beyond-room e r = record { count = longer e; list = λ k. absurd (omega arith) }
 
   pub on : (e : Edge) → n < room → to + 4 * room ≤ length w → Holds to room (putAt w (to + 4 * n) e) (n + 1) (es ++ (e ∷ []))
   on e r f = record { count = longer e; list = λ k. grown w to n e (omega arith) ∙ ap (λ (fs : List Edge). fs ++ (e ∷ [])) (h .list (omega arith)) }
@@ -107,17 +107,17 @@ one-le true = omega arith
 one-le false = omega arith
 
 -- ---- a path goes on, begins, and is closed
-pub kept : {to room : ℕ} {w v : List Float} {s : State} {t : Path} (h : Tracks to room w s t) (e : Edge) (pen : Pen) (on : Bool) (joint : Edge) (n : ℕ)
-    → pen ≡ movedOf (s .pen) e → on ≡ joinsOf (s .pen) (e .a) → joint ≡ lineOf (s .pen .last) (e .a)
-    → Holds to room v n ((t .out ++ if-on on joint) ++ (e ∷ [])) → Tracks to room v (record { pen = pen; at = n }) (followed t e true)
+pub path-kept : {to room : ℕ} {w v : List Float} {s : State} {t : Path} (h : Tracks to room w s t) (e : Edge) (ends : PathEnds) (on : Bool) (joint : Edge) (n : ℕ)
+    → ends ≡ movedOf (s .ends) e → on ≡ joinsOf (s .ends) (e .a) → joint ≡ lineBetween (s .ends .last) (e .a)
+    → Holds to room v n ((t .out ++ if-on on joint) ++ (e ∷ [])) → Tracks to room v (record { ends = ends; at = n }) (followed t e true)
 unfolding followed
-kept h e pen on joint n p q r k = record { pen = rw (p, h .pen); held = rw (q, r, h .pen) at k }
+path-kept h e ends on joint n p q r k = record { ends = rw (p, h .ends); held = rw (q, r, h .ends) at k }
 
-pub starts : {to room : ℕ} {w : List Float} {s : State} → s ≡ record { pen = nowhere; at = 0 } → Tracks to room w s nothing
+pub starts : {to room : ℕ} {w : List Float} {s : State} → s ≡ record { ends = unbegun; at = 0 } → Tracks to room w s nothing
 unfolding run
-starts e = rw e (record { pen = refl; held = record { count = refl; list = λ l. refl } })
+starts e = rw e (record { ends = refl; held = record { count = refl; list = λ l. refl } })
 
 pub closes : {to room : ℕ} {w v : List Float} {s : State} {t : Path} (h : Tracks to room w s t) (on : Bool) (joint : Edge) (n : ℕ)
-    → on ≡ joinsOf (s .pen) (s .pen .start) → joint ≡ lineOf (s .pen .last) (s .pen .start) → Holds to room v n (t .out ++ if-on on joint) → Holds to room v n (closed t)
-unfolding closed
-closes h on joint n p q k = rw (p, q, h .pen) at k
+    → on ≡ joinsOf (s .ends) (s .ends .start) → joint ≡ lineBetween (s .ends .last) (s .ends .start) → Holds to room v n (t .out ++ if-on on joint) → Holds to room v n (closedPath t)
+unfolding closedPath
+closes h on joint n p q k = rw (p, q, h .ends) at k

@@ -9,4 +9,4 @@ pub mod LentLaws
 -- A list that goes from one half to the other.
 pub mod StageLaws
 -- The loop of the first pass.
-pub mod SurveyLaws
+pub mod FirstPassLaws

@@ -11,48 +11,48 @@ use Rattle.boundary.specs.declared.Edge.{Edge}
 use Rattle.lists.specs.Lists.{fold, any}
 use Rattle.boundary.specs.Line.{alongOf}
 use Rattle.number.specs.Exact.{zeroᶠ, one}
-use Rattle.clip.specs.declared.Side.{Side}
+use Rattle.clip.specs.declared.HalfPlane.{HalfPlane}
 use Rattle.clip.specs.declared.Marks.{Marks}
-use Rattle.clip.specs.Clip.{at, coordOf, inside, crossing, crosses, Part, partOf, partsOf, parts, lead, lastKept, turned, keptLines, joint, onward, joined, clipOf}
-use Rattle.clip.specs.Passes.{markAt, uncutOf, marksBetween, marksOf, firstOf, secondOf, comesIn, startOf, Path, samePlace, if-on, lineOf, followed, stepOf, nothing, closed, traced}
+use Rattle.clip.specs.Clip.{pointAlong, coordOf, inHalfPlane, crossing, crosses, Part, partOf, partsOf, parts, lead, lastKept, rotated, keptLines, joint, onward, joined, clipOf}
+use Rattle.clip.specs.Passes.{markAt, uncutOf, marksBetween, marksOf, firstPart, lastPart, comesIn, startLine, Path, samePlace, if-on, lineBetween, followed, stepOf, nothing, closedPath, traced}
 use Rattle.lists.proofs.FoldLaws.{fold-append}
 
 -- ---- the parts of one line
 abbrev blocks : Bool → Bool → Bool → Edge → Edge → List Part
 blocks c f a x y = cond c (record { line = x; kept = f } ∷ record { line = y; kept = a } ∷ []) (record { line = x; kept = f } ∷ [])
 
-coord-at : (y : Bool) (e : Edge) (u : Float) → cond y (at e u .y) (at e u .x) ≡ alongOf (cond y (e .a .y) (e .a .x)) (cond y (e .b .y) (e .b .x)) u
-unfolding at
+coord-at : (y : Bool) (e : Edge) (u : Float) → cond y (pointAlong e u .y) (pointAlong e u .x) ≡ alongOf (cond y (e .a .y) (e .a .x)) (cond y (e .b .y) (e .b .x)) u
+unfolding pointAlong
 coord-at true e u = refl
 coord-at false e u = refl
 
-inside-at : (s : Side) (e : Edge) (u : Float) → inside s (at e u) ≡ markAt s (coordOf s (e .a)) (coordOf s (e .b)) u
-unfolding inside markAt
+inside-at : (s : HalfPlane) (e : Edge) (u : Float) → inHalfPlane s (pointAlong e u) ≡ markAt s (coordOf s (e .a)) (coordOf s (e .b)) u
+unfolding inHalfPlane markAt
 inside-at s e u = rw (coord-at (s .y) e u)
 
 abbrev two : Bool → Float → Bool → Bool → Bool → Marks
-two c u f a w = cond c (record { cut = true; u = u; fore = f; aft = a }) (record { cut = false; u = zeroᶠ; fore = w; aft = w })
+two c u f a w = cond c (record { cut = true; u = u; startKept = f; endKept = a }) (record { cut = false; u = zeroᶠ; startKept = w; endKept = w })
 
 two-parts : (e : Edge) (c : Bool) (u : Float) (f a w : Bool)
-    → cond c (record { line = record { a = at e zeroᶠ; b = at e u }; kept = f } ∷ record { line = record { a = at e u; b = at e one }; kept = a } ∷ []) (record { line = e; kept = w } ∷ [])
-    ≡ blocks (two c u f a w .cut) (two c u f a w .fore) (two c u f a w .aft) (firstOf (two c u f a w) e) (secondOf (two c u f a w) e)
-unfolding at alongOf eq firstOf secondOf
+    → cond c (record { line = record { a = pointAlong e zeroᶠ; b = pointAlong e u }; kept = f } ∷ record { line = record { a = pointAlong e u; b = pointAlong e one }; kept = a } ∷ []) (record { line = e; kept = w } ∷ [])
+    ≡ blocks (two c u f a w .cut) (two c u f a w .startKept) (two c u f a w .endKept) (firstPart (two c u f a w) e) (lastPart (two c u f a w) e)
+unfolding pointAlong alongOf eq firstPart lastPart
 two-parts e true u f a w = refl
 two-parts e false u f a w = refl
 
-two-whole : (c : Bool) (u : Float) (f a w : Bool) → two c u f a w .cut ≡ false → two c u f a w .aft ≡ two c u f a w .fore
+two-whole : (c : Bool) (u : Float) (f a w : Bool) → two c u f a w .cut ≡ false → two c u f a w .endKept ≡ two c u f a w .startKept
 two-whole true u f a w e = absurd (true≢false e)
 two-whole false u f a w e = refl
 
-abbrev marks : Side → Edge → List Part
-marks s e = let m = marksOf s e in blocks (m .cut) (m .fore) (m .aft) (firstOf m e) (secondOf m e)
+abbrev marks : HalfPlane → Edge → List Part
+marks s e = let m = marksOf s e in blocks (m .cut) (m .startKept) (m .endKept) (firstPart m e) (lastPart m e)
 
-parts-marks : (s : Side) (e : Edge) → partsOf s e ≡ marks s e
+parts-marks : (s : HalfPlane) (e : Edge) → partsOf s e ≡ marks s e
 unfolding partsOf partOf marksOf marksBetween uncutOf crosses
 parts-marks s e = simp inside-at (two-parts e (crosses s e) (crossing s e) _ _ _)
 
 -- a line that is not cut has one mark
-whole : (s : Side) (e : Edge) → marksOf s e .cut ≡ false → marksOf s e .aft ≡ marksOf s e .fore
+whole : (s : HalfPlane) (e : Edge) → marksOf s e .cut ≡ false → marksOf s e .endKept ≡ marksOf s e .startKept
 unfolding marksOf marksBetween uncutOf crosses
 whole s e = two-whole (crosses s e) (crossing s e) _ _ _
 
@@ -81,13 +81,13 @@ any-blocks q x y false f a h = rw (h refl) (by (q f))
     by true = refl
     by false = refl
 
-module _ (s : Side) where
+module _ (s : HalfPlane) where
   pub parts-cons : (e : Edge) (es : List Edge) → parts s (e ∷ es) ≡ marks s e ++ parts s es
   unfolding parts flatMap
   parts-cons e es = rw (parts-marks s e)
 
   any-parts : (q : Bool → Bool) (e : Edge) (es : List Edge)
-      → any (λ p. q (p .kept)) (parts s (e ∷ es)) ≡ (q (marksOf s e .fore) || q (marksOf s e .aft)) || any (λ p. q (p .kept)) (parts s es)
+      → any (λ p. q (p .kept)) (parts s (e ∷ es)) ≡ (q (marksOf s e .startKept) || q (marksOf s e .endKept)) || any (λ p. q (p .kept)) (parts s es)
   any-parts q e es =
       ap (any (λ p. q (p .kept))) (parts-cons e es)
       ∙ any-append (λ p. q (p .kept)) (marks s e) (parts s es)
@@ -118,54 +118,54 @@ unfolding lastKept last-from fold
 some-last [] h = absurd (true≢false (sym h))
 some-last (p ∷ ps) h = h
 
-module _ (s : Side) where
-  last-cons : (b : Bool) (e : Edge) (es : List Edge) → last-from b (parts s (e ∷ es)) ≡ last-from (marksOf s e .aft) (parts s es)
+module _ (s : HalfPlane) where
+  last-cons : (b : Bool) (e : Edge) (es : List Edge) → last-from b (parts s (e ∷ es)) ≡ last-from (marksOf s e .endKept) (parts s es)
   unfolding last-from
   last-cons b e es =
       ap (fold (λ b p. p .kept) b) (parts-cons s e es)
       ∙ fold-append (λ b p. p .kept) b (marks s e) (parts s es)
-      ∙ ap (λ c. fold (λ b p. p .kept) c (parts s es)) (last-blocks _ _ b (marksOf s e .cut) (marksOf s e .fore) (marksOf s e .aft) (whole s e))
+      ∙ ap (λ c. fold (λ b p. p .kept) c (parts s es)) (last-blocks _ _ b (marksOf s e .cut) (marksOf s e .startKept) (marksOf s e .endKept) (whole s e))
 
   -- no line comes in after a part that is not kept: none is kept
-  pub no-entry-out : (es : List Edge) → startOf s false es ≡ length es → any (λ p. p .kept) (parts s es) ≡ false
-  unfolding startOf any fold parts flatMap
+  pub no-entry-out : (es : List Edge) → startLine s false es ≡ length es → any (λ p. p .kept) (parts s es) ≡ false
+  unfolding startLine any fold parts flatMap
   no-entry-out [] h = refl
-  no-entry-out (e ∷ es) h = any-parts s (λ b. b) e es ∙ by (marksOf s e .fore) (marksOf s e .aft) (no-entry-out es) h
+  no-entry-out (e ∷ es) h = any-parts s (λ b. b) e es ∙ by (marksOf s e .startKept) (marksOf s e .endKept) (no-entry-out es) h
     where
-      by : (f a : Bool) → (startOf s false es ≡ length es → any (λ p. p .kept) (parts s es) ≡ false)
-          → cond (comesIn false (record { cut = true; u = zeroᶠ; fore = f; aft = a })) 0 (suc (startOf s a es)) ≡ suc (length es) → (f || a) || any (λ p. p .kept) (parts s es) ≡ false
+      by : (f a : Bool) → (startLine s false es ≡ length es → any (λ p. p .kept) (parts s es) ≡ false)
+          → cond (comesIn false (record { cut = true; u = zeroᶠ; startKept = f; endKept = a })) 0 (suc (startLine s a es)) ≡ suc (length es) → (f || a) || any (λ p. p .kept) (parts s es) ≡ false
       by true a rest k = absurd (omega arith)
       by false true rest k = absurd (omega arith)
       by false false rest k = rest (omega arith)
 
   -- nor after one that is, and the last is kept: all are
-  no-entry-in : (es : List Edge) → startOf s true es ≡ length es → last-from true (parts s es) ≡ true → any (λ p. not (p .kept)) (parts s es) ≡ false
-  unfolding startOf any fold parts flatMap
+  no-entry-in : (es : List Edge) → startLine s true es ≡ length es → last-from true (parts s es) ≡ true → any (λ p. not (p .kept)) (parts s es) ≡ false
+  unfolding startLine any fold parts flatMap
   no-entry-in [] h l = refl
-  no-entry-in (e ∷ es) h l = any-parts s not e es ∙ by (marksOf s e .fore) (marksOf s e .aft) (no-entry-in es) h (sym (last-cons true e es) ∙ l)
+  no-entry-in (e ∷ es) h l = any-parts s not e es ∙ by (marksOf s e .startKept) (marksOf s e .endKept) (no-entry-in es) h (sym (last-cons true e es) ∙ l)
     where
-      out : startOf s false es ≡ length es → last-from false (parts s es) ≡ true → ⊥
+      out : startLine s false es ≡ length es → last-from false (parts s es) ≡ true → ⊥
       out h l = true≢false (sym l ∙ none-last (parts s es) (no-entry-out es h))
 
-      by : (f a : Bool) → (startOf s true es ≡ length es → last-from true (parts s es) ≡ true → any (λ p. not (p .kept)) (parts s es) ≡ false)
-          → cond (comesIn true (record { cut = true; u = zeroᶠ; fore = f; aft = a })) 0 (suc (startOf s a es)) ≡ suc (length es) → last-from a (parts s es) ≡ true
+      by : (f a : Bool) → (startLine s true es ≡ length es → last-from true (parts s es) ≡ true → any (λ p. not (p .kept)) (parts s es) ≡ false)
+          → cond (comesIn true (record { cut = true; u = zeroᶠ; startKept = f; endKept = a })) 0 (suc (startLine s a es)) ≡ suc (length es) → last-from a (parts s es) ≡ true
           → (not f || not a) || any (λ p. not (p .kept)) (parts s es) ≡ false
       by true true rest k l = rest (omega arith) l
       by true false rest k l = absurd (out (omega arith) l)
       by false true rest k l = absurd (omega arith)
       by false false rest k l = absurd (out (omega arith) l)
 
-  pub no-entry-kept : (es : List Edge) → startOf s true es ≡ length es → lastKept (parts s es) ≡ true → any (λ p. not (p .kept)) (parts s es) ≡ false
+  pub no-entry-kept : (es : List Edge) → startLine s true es ≡ length es → lastKept (parts s es) ≡ true → any (λ p. not (p .kept)) (parts s es) ≡ false
   no-entry-kept es h l = no-entry-in es h (some-last (parts s es) l)
 
   -- a line comes in: a part of it is kept, and one before it is not
-  pub entry : (b : Bool) (es : List Edge) → startOf s b es < length es → (any (λ p. p .kept) (parts s es) ≡ true) × (b ≡ true → any (λ p. not (p .kept)) (parts s es) ≡ true)
-  unfolding startOf
-  entry b [] h = absurd (omega arith)
-  entry b (e ∷ es) h = rw (any-parts s (λ b. b) e es, any-parts s not e es) (by b (marksOf s e .fore) (marksOf s e .aft) (λ c. entry c es) h)
+  pub first-entry : (b : Bool) (es : List Edge) → startLine s b es < length es → (any (λ p. p .kept) (parts s es) ≡ true) × (b ≡ true → any (λ p. not (p .kept)) (parts s es) ≡ true)
+  unfolding startLine
+  first-entry b [] h = absurd (omega arith)
+  first-entry b (e ∷ es) h = rw (any-parts s (λ b. b) e es, any-parts s not e es) (by b (marksOf s e .startKept) (marksOf s e .endKept) (λ c. first-entry c es) h)
     where
-      by : (b f a : Bool) → ((c : Bool) → startOf s c es < length es → (any (λ p. p .kept) (parts s es) ≡ true) × (c ≡ true → any (λ p. not (p .kept)) (parts s es) ≡ true))
-          → cond (comesIn b (record { cut = true; u = zeroᶠ; fore = f; aft = a })) 0 (suc (startOf s a es)) < suc (length es)
+      by : (b f a : Bool) → ((c : Bool) → startLine s c es < length es → (any (λ p. p .kept) (parts s es) ≡ true) × (c ≡ true → any (λ p. not (p .kept)) (parts s es) ≡ true))
+          → cond (comesIn b (record { cut = true; u = zeroᶠ; startKept = f; endKept = a })) 0 (suc (startLine s a es)) < suc (length es)
           → ((f || a) || any (λ p. p .kept) (parts s es) ≡ true) × (b ≡ true → (not f || not a) || any (λ p. not (p .kept)) (parts s es) ≡ true)
       by false true a rest k = (refl, λ e. absurd (true≢false (sym e)))
       by true true true rest k = (refl, λ e. rest true (omega arith) .1 refl)
@@ -204,7 +204,7 @@ module _ (x y : Edge) (qs : List Part) (xs ys : List Edge) where
   turned-blocks b true false false w h = record { after = h .after; front = h .front }
   turned-blocks b false f a w h = rw (w refl) (turned-whole b f (rw (w refl) at h))
 
-module _ (s : Side) where
+module _ (s : HalfPlane) where
   drop-to : (e : Edge) (es : List Edge) (j : ℕ) (c : Bool) → keptLines (parts s (drop (cond c 0 (suc j)) (e ∷ es))) ≡ cond c (keptLines (marks s e ++ parts s es)) (keptLines (parts s (drop j es)))
   drop-to e es j true = ap keptLines (parts-cons s e es)
   drop-to e es j false = refl
@@ -215,23 +215,23 @@ module _ (s : Side) where
   take-to e es j false = ap keptLines (parts-cons s e (take j es)) ∙ kept-append (marks s e) (parts s (take j es))
 
   abbrev TurnedAt : Bool → List Edge → Type 0
-  TurnedAt b es = Turned (parts s es) (lead b (parts s es)) (keptLines (parts s (drop (startOf s b es) es))) (keptLines (parts s (take (startOf s b es) es)))
+  TurnedAt b es = Turned (parts s es) (lead b (parts s es)) (keptLines (parts s (drop (startLine s b es) es))) (keptLines (parts s (take (startLine s b es) es)))
 
   turned-none : (b : Bool) → TurnedAt b []
-  unfolding startOf parts lead flatMap
+  unfolding startLine parts lead flatMap
   turned-none b = record { after = refl; front = refl }
 
-  turned-cons : (b : Bool) (e : Edge) (es : List Edge) → TurnedAt (marksOf s e .aft) es → TurnedAt b (e ∷ es)
-  unfolding startOf
+  turned-cons : (b : Bool) (e : Edge) (es : List Edge) → TurnedAt (marksOf s e .endKept) es → TurnedAt b (e ∷ es)
+  unfolding startLine
   turned-cons b e es h =
-      let j : ℕ = startOf s (marksOf s e .aft) es in
+      let j : ℕ = startLine s (marksOf s e .endKept) es in
       let c : Bool = comesIn b (marksOf s e) in
-      let k = turned-blocks (firstOf (marksOf s e) e) (secondOf (marksOf s e) e) (parts s es) _ _ b (marksOf s e .cut) (marksOf s e .fore) (marksOf s e .aft) (whole s e) h in
+      let k = turned-blocks (firstPart (marksOf s e) e) (lastPart (marksOf s e) e) (parts s es) _ _ b (marksOf s e .cut) (marksOf s e .startKept) (marksOf s e .endKept) (whole s e) h in
       rw (parts-cons s e es) (record { after = k .after ∙ sym (drop-to e es j c); front = k .front ∙ sym (take-to e es j c) })
 
   turned-lines : (b : Bool) (es : List Edge) → TurnedAt b es
   turned-lines b [] = turned-none b
-  turned-lines b (e ∷ es) = turned-cons b e es (turned-lines (marksOf s e .aft) es)
+  turned-lines b (e ∷ es) = turned-cons b e es (turned-lines (marksOf s e .endKept) es)
 
 -- ---- the second pass: the path of the lines is that of their kept parts
 write : Path → Edge → Path
@@ -246,45 +246,45 @@ path-blocks t x y true false false = refl
 path-blocks t x y false true a = refl
 path-blocks t x y false false a = refl
 
-module _ (s : Side) where
+module _ (s : HalfPlane) where
   path-lines : (t : Path) (es : List Edge) → fold (stepOf s) t es ≡ fold write t (keptLines (parts s es))
   unfolding fold stepOf parts flatMap keptLines
   path-lines t [] = refl
   path-lines t (e ∷ es) =
       let ps : List Part = marks s e in
       path-lines (stepOf s t e) es
-      ∙ ap (λ u. fold write u (keptLines (parts s es))) (path-blocks t _ _ (marksOf s e .cut) (marksOf s e .fore) (marksOf s e .aft))
+      ∙ ap (λ u. fold write u (keptLines (parts s es))) (path-blocks t _ _ (marksOf s e .cut) (marksOf s e .startKept) (marksOf s e .endKept))
       ∙ sym (fold-append write t (keptLines ps) (keptLines (parts s es)))
       ∙ sym (ap (fold write t) (ap keptLines (parts-cons s e es) ∙ kept-append ps (parts s es)))
 
 -- closed, it is the joined lines
-if-joint : (p q : Point) → if-on (not (samePlace p q)) (lineOf p q) ≡ joint p q
+if-joint : (p q : Point) → if-on (not (samePlace p q)) (lineBetween p q) ≡ joint p q
 unfolding joint
 if-joint p q = by (samePlace p q)
   where
-    by : (b : Bool) → cond (not b) (lineOf p q ∷ []) [] ≡ cond b [] (lineOf p q ∷ [])
+    by : (b : Bool) → cond (not b) (lineBetween p q ∷ []) [] ≡ cond b [] (lineBetween p q ∷ [])
     by true = refl
     by false = refl
 
-closed-onward : (start last : Point) (out es : List Edge) → closed (fold write (record { pen = record { begun = 1; start = start; last = last }; out = out }) es) ≡ out ++ onward start last es
-unfolding closed fold write followed onward
+closed-onward : (start last : Point) (out es : List Edge) → closedPath (fold write (record { ends = record { begun = 1; start = start; last = last }; out = out }) es) ≡ out ++ onward start last es
+unfolding closedPath fold write followed onward
 closed-onward start last out [] = rw (if-joint last start)
 closed-onward start last out (e ∷ es) =
-    closed-onward start (e .b) ((out ++ if-on (not (samePlace last (e .a))) (lineOf last (e .a))) ++ (e ∷ [])) es ∙ rw (if-joint last (e .a)) (simp append-assoc)
+    closed-onward start (e .b) ((out ++ if-on (not (samePlace last (e .a))) (lineBetween last (e .a))) ++ (e ∷ [])) es ∙ rw (if-joint last (e .a)) (simp append-assoc)
 
-closed-joined : (es : List Edge) → closed (fold write nothing es) ≡ joined es
-unfolding closed fold write followed joined
+closed-joined : (es : List Edge) → closedPath (fold write nothing es) ≡ joined es
+unfolding closedPath fold write followed joined
 closed-joined [] = refl
 closed-joined (e ∷ es) = closed-onward (e .a) (e .b) (e ∷ []) es
 
-module _ (s : Side) where
+module _ (s : HalfPlane) where
   -- the path from the first line that comes in on, where b is the mark of the last part
-  pub traced-turned : (es : List Edge) (b : Bool) → lastKept (parts s es) ≡ b
-      → traced s (drop (startOf s b es) es) (take (startOf s b es) es) ≡ joined (keptLines (turned (parts s es)))
-  unfolding traced turned
-  traced-turned es b h =
-      let fs : List Edge = drop (startOf s b es) es in
-      let gs : List Edge = take (startOf s b es) es in
+  pub traced-rotated : (es : List Edge) (b : Bool) → lastKept (parts s es) ≡ b
+      → traced s (drop (startLine s b es) es) (take (startLine s b es) es) ≡ joined (keptLines (rotated (parts s es)))
+  unfolding traced rotated
+  traced-rotated es b h =
+      let fs : List Edge = drop (startLine s b es) es in
+      let gs : List Edge = take (startLine s b es) es in
       let t = turned-lines s b es in
       rw (h, path-lines s nothing fs, path-lines s (fold write nothing (keptLines (parts s fs))) gs, ← fold-append write nothing (keptLines (parts s fs)) (keptLines (parts s gs)), closed-joined, kept-append (drop (lead b (parts s es)) (parts s es)), t .after, t .front)
 
@@ -298,17 +298,17 @@ module _ (s : Side) where
   parts-one e = append-nil (partsOf s e) ∙ parts-marks s e
 
   -- the mark of the last part is that of the last line
-  pub last-line : (es : List Edge) (e : Edge) → lastKept (parts s (es ++ (e ∷ []))) ≡ marksOf s e .aft
+  pub last-line : (es : List Edge) (e : Edge) → lastKept (parts s (es ++ (e ∷ []))) ≡ marksOf s e .endKept
   unfolding lastKept last-from
   last-line es e =
       rw (parts-append es (e ∷ []), parts-one e, fold-append (λ b p. p .kept) false (parts s es) (marks s e))
-      (last-blocks _ _ _ (marksOf s e .cut) (marksOf s e .fore) (marksOf s e .aft) (whole s e))
+      (last-blocks _ _ _ (marksOf s e .cut) (marksOf s e .startKept) (marksOf s e .endKept) (whole s e))
 
   -- where it is not kept, some part is not
-  pub last-dropped : (es : List Edge) (e : Edge) → marksOf s e .aft ≡ false → any (λ p. not (p .kept)) (parts s (es ++ (e ∷ []))) ≡ true
+  pub last-dropped : (es : List Edge) (e : Edge) → marksOf s e .endKept ≡ false → any (λ p. not (p .kept)) (parts s (es ++ (e ∷ []))) ≡ true
   last-dropped es e h =
-      rw (parts-append es (e ∷ []), parts-one e, any-append (λ p. not (p .kept)) (parts s es) (marks s e), any-blocks not (firstOf (marksOf s e) e) (secondOf (marksOf s e) e) _ _ _ (whole s e), h)
-      (by (any (λ p. not (p .kept)) (parts s es)) (not (marksOf s e .fore)))
+      rw (parts-append es (e ∷ []), parts-one e, any-append (λ p. not (p .kept)) (parts s es) (marks s e), any-blocks not (firstPart (marksOf s e) e) (lastPart (marksOf s e) e) _ _ _ (whole s e), h)
+      (by (any (λ p. not (p .kept)) (parts s es)) (not (marksOf s e .startKept)))
     where
       by : (a b : Bool) → a || (b || true) ≡ true
       by true b = refl
@@ -320,14 +320,14 @@ module _ (s : Side) where
   unfolding clipOf
   clip-all es h = rw h
 
-  pub clip-some : (es : List Edge) → any (λ p. not (p .kept)) (parts s es) ≡ true → any (λ p. p .kept) (parts s es) ≡ true → clipOf s es ≡ joined (keptLines (turned (parts s es)))
+  pub clip-some : (es : List Edge) → any (λ p. not (p .kept)) (parts s es) ≡ true → any (λ p. p .kept) (parts s es) ≡ true → clipOf s es ≡ joined (keptLines (rotated (parts s es)))
   unfolding clipOf
   clip-some es h k = rw (h, k)
 
   -- a line has a part, which is kept or not
   some-part : (es : List Edge) → any (λ p. not (p .kept)) (parts s es) ≡ false → any (λ p. p .kept) (parts s es) ≡ false → es ≡ []
   some-part [] h k = refl
-  some-part (e ∷ es) h k = absurd (by (marksOf s e .fore) _ _ _ _ (rw (any-parts s not e es) at h) (rw (any-parts s (λ b. b) e es) at k))
+  some-part (e ∷ es) h k = absurd (by (marksOf s e .startKept) _ _ _ _ (rw (any-parts s not e es) at h) (rw (any-parts s (λ b. b) e es) at k))
     where
       by : (f a b c d : Bool) → (not f || a) || b ≡ false → (f || c) || d ≡ false → ⊥
       by true a b c d h k = true≢false k
@@ -337,6 +337,6 @@ module _ (s : Side) where
   unfolding clipOf
   clip-none es k = by (any (λ p. not (p .kept)) (parts s es)) refl
     where
-      by : (d : Bool) → any (λ p. not (p .kept)) (parts s es) ≡ d → cond (not d) es (cond (not (any (λ p. p .kept) (parts s es))) [] (joined (keptLines (turned (parts s es))))) ≡ []
+      by : (d : Bool) → any (λ p. not (p .kept)) (parts s es) ≡ d → cond (not d) es (cond (not (any (λ p. p .kept) (parts s es))) [] (joined (keptLines (rotated (parts s es))))) ≡ []
       by true h = rw k
       by false h = some-part es h k

@@ -12,25 +12,25 @@ use lib.Ieee.{Float}
 use Rattle.boundary.specs.declared.Edge.{Edge}
 use Rattle.lists.proofs.RunLaws.{run-last, length-run, take-run, drop-run}
 use Rattle.lists.specs.Lists.{run, fold, any}
-use Rattle.clip.specs.declared.Side.{Side}
-use Rattle.clip.specs.declared.Survey.{Survey}
+use Rattle.clip.specs.declared.HalfPlane.{HalfPlane}
+use Rattle.clip.specs.declared.FirstPass.{FirstPass}
 use Rattle.clip.specs.declared.Stored.{Stored}
 use Rattle.clip.specs.Clip.{parts, lastKept, clipOf}
-use Rattle.clip.specs.Passes.{startOf, surveyOf, traced}
-use Rattle.clip.specs.Lent.{apart, Holds, placeOf, Stage}
-use Rattle.clip.proofs.PassLaws.{no-entry-out, no-entry-kept, entry, traced-turned, last-line, last-dropped, clip-all, clip-some, clip-none}
+use Rattle.clip.specs.Passes.{startLine, firstPassOf, traced}
+use Rattle.clip.specs.Lent.{disjoint, Holds, placeOf, Stage}
+use Rattle.clip.proofs.PassLaws.{no-entry-out, no-entry-kept, first-entry, traced-rotated, last-line, last-dropped, clip-all, clip-some, clip-none}
 
 -- ---- the halves
 pub place-le : (half : ℕ) (b : Bool) → placeOf half b + 4 * half ≤ 8 * half
 place-le half true = omega arith
 place-le half false = omega arith
 
-pub place-apart : (half n : ℕ) (b : Bool) → n ≤ half → apart (placeOf half b) (4 * n) (placeOf half (not b)) (4 * half)
+pub place-apart : (half n : ℕ) (b : Bool) → n ≤ half → disjoint (placeOf half b) (4 * n) (placeOf half (not b)) (4 * half)
 place-apart half n true l = inr (omega arith)
 place-apart half n false l = inl (omega arith)
 
 -- ---- what the first pass says
-module _ (s : Side) (g : ℕ → Edge) (n : ℕ) (l : 1 ≤ n) {f : Survey} (e : f ≡ surveyOf s (g (n - 1)) (run g 0 n)) where
+module _ (s : HalfPlane) (g : ℕ → Edge) (n : ℕ) (l : 1 ≤ n) {f : FirstPass} (e : f ≡ firstPassOf s (g (n - 1)) (run g 0 n)) where
   abbrev es : List Edge
   es = run g 0 n
 
@@ -41,39 +41,39 @@ module _ (s : Side) (g : ℕ → Edge) (n : ℕ) (l : 1 ≤ n) {f : Survey} (e :
       ap (run g 0) k ∙ rw (run-last g 0 (n - 1), z)
 
   last-is : lastKept (parts s es) ≡ f .kept
-  last-is = ap (λ es. lastKept (parts s es)) by-last ∙ last-line s (run g 0 (n - 1)) (g (n - 1)) ∙ sym (ap (λ (x : Survey). x .kept) e)
+  last-is = ap (λ es. lastKept (parts s es)) by-last ∙ last-line s (run g 0 (n - 1)) (g (n - 1)) ∙ sym (ap (λ (x : FirstPass). x .kept) e)
 
-  start-is : f .start ≡ startOf s (f .kept) es
+  start-is : f .start ≡ startLine s (f .kept) es
   start-is = rw e
 
   -- no line comes in
-  pub all-kept : f .start ≡ n → f .kept ≡ true → any (λ p. not (p .kept)) (parts s es) ≡ false
-  all-kept h k = no-entry-kept s es (rw k at (sym start-is ∙ h) ∙ sym (length-run g 0 n)) (last-is ∙ k)
+  pub all-parts-kept : f .start ≡ n → f .kept ≡ true → any (λ p. not (p .kept)) (parts s es) ≡ false
+  all-parts-kept h k = no-entry-kept s es (rw k at (sym start-is ∙ h) ∙ sym (length-run g 0 n)) (last-is ∙ k)
 
   pub none-kept : f .start ≡ n → f .kept ≡ false → any (λ p. p .kept) (parts s es) ≡ false
   none-kept h k = no-entry-out s es (rw k at (sym start-is ∙ h) ∙ sym (length-run g 0 n))
 
   pub last-out : f .kept ≡ false → any (λ p. not (p .kept)) (parts s es) ≡ true
-  last-out k = rw by-last (last-dropped s (run g 0 (n - 1)) (g (n - 1)) (sym (ap (λ (x : Survey). x .kept) e) ∙ k))
+  last-out k = rw by-last (last-dropped s (run g 0 (n - 1)) (g (n - 1)) (sym (ap (λ (x : FirstPass). x .kept) e) ∙ k))
 
   -- one does
   pub some-dropped : f .start < n → any (λ p. not (p .kept)) (parts s es) ≡ true
   some-dropped h = by (f .kept) refl
     where
       by : (b : Bool) → f .kept ≡ b → any (λ p. not (p .kept)) (parts s es) ≡ true
-      by true k = entry s (f .kept) es (rw (length-run g 0 n, ← start-is) h) .1 k
+      by true k = first-entry s (f .kept) es (rw (length-run g 0 n, ← start-is) h) .1 k
       by false k = last-out k
 
   -- the path that the second pass writes is the clip
   pub clip-traced : f .start < n → clipOf s es ≡ traced s (run g (f .start) (n - f .start)) (run g 0 (f .start))
   clip-traced h =
       let m : f .start ≤ n = omega arith in
-      clip-some s es (some-dropped h) (entry s (f .kept) es (rw (length-run g 0 n, ← start-is) h) .0)
-      ∙ sym (traced-turned s es (f .kept) last-is)
+      clip-some s es (some-dropped h) (first-entry s (f .kept) es (rw (length-run g 0 n, ← start-is) h) .0)
+      ∙ sym (traced-rotated s es (f .kept) last-is)
       ∙ rw (← start-is, drop-run g (f .start) n m, take-run g (f .start) n m)
 
 -- ---- the three ways of a clip
-module _ (half : ℕ) (s : Side) (es : List Edge) where
+module _ (half : ℕ) (s : HalfPlane) (es : List Edge) where
   pub all-inside : {w : List Float} {c : Stored} → Stage half w c false es → any (λ p. not (p .kept)) (parts s es) ≡ false → Stage half w c (ltb half (length (clipOf s es))) (clipOf s es)
   all-inside h d = rw (clip-all s es d) (record { flag = ap (ltb half) (sym (h .held refl .count)); held = λ z. h .held refl })
 
@@ -99,7 +99,7 @@ nothing-left : (es : List Edge) → length es ≡ 0 → es ≡ []
 nothing-left [] e = refl
 nothing-left (x ∷ es) e = absurd (omega arith)
 
-pub empty : {half : ℕ} {w : List Float} {c : Stored} {long : Bool} {es : List Edge} (h : Stage half w c long es) (s : Side) → c .n ≡ 0
+pub empty : {half : ℕ} {w : List Float} {c : Stored} {long : Bool} {es : List Edge} (h : Stage half w c long es) (s : HalfPlane) → c .n ≡ 0
     → Stage half w c (long || ltb half (length (clipOf s es))) (clipOf s es)
 unfolding any fold parts flatMap
 empty {half} {w} {c} {long} {es} h s z =

@@ -10,30 +10,30 @@ use Rattle.boundary.specs.declared.Edge.{Edge}
 use Rattle.lists.specs.Lists.{fold, any}
 use Rattle.boundary.specs.Line.{alongOf}
 use Rattle.boundary.specs.Line.{half}
-use Rattle.clip.specs.declared.Side.{Side}
+use Rattle.clip.specs.declared.HalfPlane.{HalfPlane}
 
 -- ---- the parts of a line
 -- the point at u of 0..1 along the line; u = 1 gives the far end itself
-unfoldable pub at : Edge → Float → Point
-at e u = record { x = alongOf (e .a .x) (e .b .x) u; y = alongOf (e .a .y) (e .b .y) u }
+unfoldable pub pointAlong : Edge → Float → Point
+pointAlong e u = record { x = alongOf (e .a .x) (e .b .x) u; y = alongOf (e .a .y) (e .b .y) u }
 
 -- the coordinate that the half-plane bounds
-abbrev pub coordOf : Side → Point → Float
+abbrev pub coordOf : HalfPlane → Point → Float
 coordOf s p = cond (s .y) (p .y) (p .x)
 
 -- whether a point is inside; equality with the bound is inside
-unfoldable pub inside : Side → Point → Bool
-inside s p = cond (s .above) (le (s .v) (coordOf s p)) (le (coordOf s p) (s .v))
+unfoldable pub inHalfPlane : HalfPlane → Point → Bool
+inHalfPlane s p = cond (s .above) (le (s .v) (coordOf s p)) (le (coordOf s p) (s .v))
 
 -- by how much the coordinate grows along the line, and the u where it meets the bound
-abbrev pub growthOf : Side → Edge → Float
+abbrev pub growthOf : HalfPlane → Edge → Float
 growthOf s e = sub binary64 (coordOf s (e .b)) (coordOf s (e .a))
 
-abbrev pub crossing : Side → Edge → Float
+abbrev pub crossing : HalfPlane → Edge → Float
 crossing s e = div binary64 (sub binary64 (s .v) (coordOf s (e .a))) (growthOf s e)
 
 -- whether that is a crossing with 0 < u < 1
-unfoldable pub crosses : Side → Edge → Bool
+unfoldable pub crosses : HalfPlane → Edge → Bool
 crosses s e = (ne (growthOf s e) zeroᶠ && lt zeroᶠ (crossing s e)) && lt (crossing s e) one
 
 -- a part of a line, and whether it is kept: whether it is inside
@@ -42,16 +42,16 @@ pub record Part : Type 0 where
   pub kept : Bool
 
 -- the part from u to v, marked by its midpoint
-unfoldable pub partOf : Side → Edge → Float → Float → Part
-partOf s e u v = record { line = record { a = at e u; b = at e v }; kept = inside s (at e (mul binary64 half (add binary64 u v))) }
+unfoldable pub partOf : HalfPlane → Edge → Float → Float → Part
+partOf s e u v = record { line = record { a = pointAlong e u; b = pointAlong e v }; kept = inHalfPlane s (pointAlong e (mul binary64 half (add binary64 u v))) }
 
 -- a line without such a crossing is one part, marked by its own midpoint
-unfoldable pub partsOf : Side → Edge → List Part
+unfoldable pub partsOf : HalfPlane → Edge → List Part
 partsOf s e =
     cond (crosses s e) (partOf s e zeroᶠ (crossing s e) ∷ partOf s e (crossing s e) one ∷ [])
-    (record { line = e; kept = inside s (at e half) } ∷ [])
+    (record { line = e; kept = inHalfPlane s (pointAlong e half) } ∷ [])
 
-unfoldable pub parts : Side → List Edge → List Part
+unfoldable pub parts : HalfPlane → List Edge → List Part
 parts s es = flatMap (partsOf s) es
 
 -- ---- the parts in their order, from the first kept one that follows one that is not
@@ -64,8 +64,8 @@ lead before (p ∷ ps) = cond (p .kept && not before) 0 (suc (lead (p .kept) ps)
 unfoldable pub lastKept : List Part → Bool
 lastKept ps = fold (λ b p. p .kept) false ps
 
-unfoldable pub turned : List Part → List Part
-turned ps = let k = lead (lastKept ps) ps in drop k ps ++ take k ps
+unfoldable pub rotated : List Part → List Part
+rotated ps = let k = lead (lastKept ps) ps in drop k ps ++ take k ps
 
 unfoldable pub keptLines : List Part → List Edge
 keptLines ps = flatMap (λ p. cond (p .kept) (p .line ∷ []) []) ps
@@ -85,9 +85,9 @@ joined [] = []
 joined (e ∷ es) = e ∷ onward (e .a) (e .b) es
 
 -- ---- `clip`: all parts inside, the list itself; none, nothing; else the kept parts, joined
-unfoldable pub clipOf : Side → List Edge → List Edge
+unfoldable pub clipOf : HalfPlane → List Edge → List Edge
 clipOf s es =
     let ps = parts s es in
     cond (not (any (λ p. not (p .kept)) ps)) es
     (cond (not (any (λ p. p .kept) ps)) []
-    (joined (keptLines (turned ps))))
+    (joined (keptLines (rotated ps))))

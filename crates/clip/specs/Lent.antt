@@ -9,7 +9,7 @@ use lib.ListN.{length, getD, set, drop}
 use lib.Ieee.{Float, nan}
 use Rattle.boundary.specs.declared.Edge.{Edge}
 use Rattle.lists.specs.Lists.{run, any}
-use Rattle.clip.specs.declared.Side.{Side}
+use Rattle.clip.specs.declared.HalfPlane.{HalfPlane}
 use Rattle.clip.specs.declared.State.{State}
 use Rattle.clip.specs.declared.Stored.{Stored}
 use Rattle.clip.specs.Clip.{parts, clipOf}
@@ -31,8 +31,8 @@ abbrev pub putAt : List Float → ℕ → Edge → List Float
 putAt w o e = set (set (set (set w o (e .a .x)) (o + 1) (e .a .y)) (o + 2) (e .b .x)) (o + 3) (e .b .y)
 
 -- two ranges share no place
-abbrev pub apart : ℕ → ℕ → ℕ → ℕ → Type 0
-apart o m to size = (o + m ≤ to) ⊎ (to + size ≤ o)
+abbrev pub disjoint : ℕ → ℕ → ℕ → ℕ → Type 0
+disjoint o m to size = (o + m ≤ to) ⊎ (to + size ≤ o)
 
 -- ---- w has become v, and nothing but the `size` numbers from `to` on has changed
 pub record Beside (to size : ℕ) (w v : List Float) : Type 0 where
@@ -46,7 +46,7 @@ pub record Holds (to room : ℕ) (w : List Float) (n : ℕ) (es : List Edge) : T
 
 -- the same of a path
 pub record Tracks (to room : ℕ) (w : List Float) (s : State) (t : Path) : Type 0 where
-  pub pen : s .pen ≡ t .pen
+  pub ends : s .ends ≡ t .ends
   pub held : Holds to room w (s .at) (t .out)
 
 -- ---- the two halves of a list, of `half` lines each
@@ -60,13 +60,13 @@ pub record Stage (half : ℕ) (w : List Float) (c : Stored) (long : Bool) (es : 
   pub held : long ≡ false → Holds (placeOf half (c .second)) half w (c .n) es
 
 -- a clip that keeps every part hands its list on: nothing is written, and the list stands where it stood
-pub record HandedOn (w v : List Float) (c r : Stored) : Type 0 where
+pub record Untouched (w v : List Float) (c r : Stored) : Type 0 where
   pub unwritten : v ≡ w
   pub stands : r ≡ c
 
 -- the list that c says, clipped: nothing past both halves has changed
-pub record Clipped (half : ℕ) (s : Side) (w v : List Float) (c r : Stored) : Type 0 where
+pub record Clipped (half : ℕ) (s : HalfPlane) (w v : List Float) (c r : Stored) : Type 0 where
   pub same : length v ≡ length w
   pub rest : drop (8 * half) v ≡ drop (8 * half) w
   pub staged : (long : Bool) (es : List Edge) → Stage half w c long es → Stage half v r (long || ltb half (length (clipOf s es))) (clipOf s es)
-  pub handed : (es : List Edge) → Stage half w c false es → any (λ p. not (p .kept)) (parts s es) ≡ false → HandedOn w v c r
+  pub untouched : (es : List Edge) → Stage half w c false es → any (λ p. not (p .kept)) (parts s es) ≡ false → Untouched w v c r

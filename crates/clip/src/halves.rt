@@ -3,7 +3,7 @@ ghost use mathlib.Core.Path.{_≡_};
 ghost use Prim.Native.Nat.{_*_, _<_, _≤_};
 ghost use lib.ListN.{length};
 ghost use Rattle.clip.specs.Lent.{placeOf, Clipped};
-use crate::Side;
+use crate::HalfPlane;
 use crate::Stored;
 use crate::path;
 use crate::scan;
@@ -18,14 +18,14 @@ pub fn place(half: usize, second: bool) -> usize
 
 // A list of at least one line and at most `half`, clipped. Where every part is inside it stays where it
 // is, and nothing is written.
-fn clip_some(w: &mut [f64], half: usize, c: Stored, s: Side) -> Stored
+fn clip_some(w: &mut [f64], half: usize, c: Stored, s: HalfPlane) -> Stored
     requires { ⌜ (8 * half ≤ length (now w)) × (1 ≤ c .n) × (c .n ≤ half) ⌝ }
     ensures { λ r. ⌜ Clipped half s (now (w .entry)) (now (w .exit)) c r ⌝ }
 {
     let n = c.n;
     let second = c.second;
     let from = place(half, second);
-    let found = scan::surveyed(w, from, n, s);
+    let found = scan::first_pass(w, from, n, s);
     if found.start == n {
         if found.kept {
             return c;
@@ -41,7 +41,7 @@ fn clip_some(w: &mut [f64], half: usize, c: Stored, s: Side) -> Stored
 }
 
 // A list, clipped; one that is too long for a half stays so.
-pub fn clip(w: &mut [f64], half: usize, c: Stored, s: Side) -> Stored
+pub fn clip(w: &mut [f64], half: usize, c: Stored, s: HalfPlane) -> Stored
     requires { ⌜ 8 * half ≤ length (now w) ⌝ }
     ensures { λ r. ⌜ Clipped half s (now (w .entry)) (now (w .exit)) c r ⌝ }
 {

@@ -8,7 +8,7 @@ pub mod scan;
 use boundary::Point;
 
 // The half-plane where the coordinate (y, or else x) is at least v (above) or at most v.
-pub struct Side {
+pub struct HalfPlane {
     pub y: bool,
     pub above: bool,
     pub v: f64,
@@ -18,20 +18,20 @@ pub struct Side {
 pub struct Marks {
     pub cut: bool,
     pub u: f64,
-    pub fore: bool,
-    pub aft: bool,
+    pub startKept: bool,
+    pub endKept: bool,
 }
 
 // What the first pass finds: whether the last part is kept, and how many lines stand before the first that
 // comes in.
-pub struct Survey {
+pub struct FirstPass {
     pub kept: bool,
     pub start: usize,
 }
 
 // A path: 0 where it has not begun and else 1, where it starts, and where it ends. (A bool here would
 // cost a stall at each line: the padding after it is copied.)
-pub struct Pen {
+pub struct PathEnds {
     pub begun: usize,
     pub start: Point,
     pub last: Point,
@@ -39,7 +39,7 @@ pub struct Pen {
 
 // A path, and how many lines it has.
 pub struct State {
-    pub pen: Pen,
+    pub ends: PathEnds,
     pub at: usize,
 }
 

@@ -1,23 +1,23 @@
 // The parts of a line, and which of them are inside.
 ghost use mathlib.Core.Path.{_≡_};
-ghost use Rattle.clip.specs.Clip.{at, coordOf};
-ghost use Rattle.clip.specs.Passes.{coordInside, cutAt, markAt, uncutOf, marksBetween, marksOf, firstOf, secondOf};
+ghost use Rattle.clip.specs.Clip.{pointAlong, coordOf};
+ghost use Rattle.clip.specs.Passes.{coordInside, cutAt, markAt, uncutOf, marksBetween, marksOf, firstPart, lastPart};
+use crate::HalfPlane;
 use crate::Marks;
-use crate::Side;
 use boundary::Edge;
 use boundary::Point;
 use boundary::line::along;
 use signs::pick;
 
 // The coordinate that the half-plane bounds.
-fn coord(s: Side, p: Point) -> f64
+fn coord(s: HalfPlane, p: Point) -> f64
     ensures { λ r. ⌜ r ≡ coordOf s p ⌝ }
 {
     pick(s.y, p.y, p.x)
 }
 
 // Whether a coordinate is inside; the bound itself is.
-fn is_inside(s: Side, c: f64) -> bool
+fn is_inside(s: HalfPlane, c: f64) -> bool
     ensures { λ r. ⌜ r ≡ coordInside s c ⌝ }
 {
     if s.above { c >= s.v } else { c <= s.v }
@@ -31,28 +31,28 @@ fn is_cut(d: f64, u: f64) -> bool
 }
 
 // Whether the point at u is inside, on a line whose coordinate goes from a to b.
-fn mark(s: Side, a: f64, b: f64, u: f64) -> bool
+fn mark(s: HalfPlane, a: f64, b: f64, u: f64) -> bool
     ensures { λ r. ⌜ r ≡ markAt s a b u ⌝ }
 {
     is_inside(s, along(a, b, u))
 }
 
 // The marks of a line that is not cut, whose coordinate goes from a to b: both are its midpoint's.
-fn uncut(s: Side, a: f64, b: f64) -> Marks
+fn uncut(s: HalfPlane, a: f64, b: f64) -> Marks
     ensures { λ r. ⌜ r ≡ uncutOf s a b ⌝ }
 {
     let whole = mark(s, a, b, 0.5);
     Marks {
         cut: false,
         u: 0.0,
-        fore: whole,
-        aft: whole,
+        startKept: whole,
+        endKept: whole,
     }
 }
 
 // The marks of a line whose coordinate goes from a to b. From its start on, the bound is p away, and its end
 // d. It is cut only where p lies between 0 and d; where p does not, there is nothing to divide.
-pub fn between(s: Side, a: f64, b: f64) -> Marks
+pub fn between(s: HalfPlane, a: f64, b: f64) -> Marks
     ensures { λ r. ⌜ r ≡ marksBetween s a b ⌝ }
 {
     let p = s.v - a;
@@ -65,15 +65,15 @@ pub fn between(s: Side, a: f64, b: f64) -> Marks
         return Marks {
             cut: true,
             u,
-            fore: mark(s, a, b, 0.5 * (0.0 + u)),
-            aft: mark(s, a, b, 0.5 * (u + 1.0)),
+            startKept: mark(s, a, b, 0.5 * (0.0 + u)),
+            endKept: mark(s, a, b, 0.5 * (u + 1.0)),
         };
     }
     uncut(s, a, b)
 }
 
 // The marks of a line.
-pub fn marked(s: Side, e: Edge) -> Marks
+pub fn marked(s: HalfPlane, e: Edge) -> Marks
     ensures { λ r. ⌜ r ≡ marksOf s e ⌝ }
 {
     between(s, coord(s, e.a), coord(s, e.b))
@@ -81,7 +81,7 @@ pub fn marked(s: Side, e: Edge) -> Marks
 
 // The point at u along a line.
 fn point_at(e: Edge, u: f64) -> Point
-    ensures { λ r. ⌜ r ≡ at e u ⌝ }
+    ensures { λ r. ⌜ r ≡ pointAlong e u ⌝ }
 {
     Point {
         x: along(e.a.x, e.b.x, u),
@@ -91,7 +91,7 @@ fn point_at(e: Edge, u: f64) -> Point
 
 // The first part of a line; the line itself where it is not cut.
 pub fn first(m: Marks, e: Edge) -> Edge
-    ensures { λ r. ⌜ r ≡ firstOf m e ⌝ }
+    ensures { λ r. ⌜ r ≡ firstPart m e ⌝ }
 {
     if m.cut {
         Edge {
@@ -105,7 +105,7 @@ pub fn first(m: Marks, e: Edge) -> Edge
 
 // The second part of a line that is cut.
 pub fn second(m: Marks, e: Edge) -> Edge
-    ensures { λ r. ⌜ r ≡ secondOf m e ⌝ }
+    ensures { λ r. ⌜ r ≡ lastPart m e ⌝ }
 {
     let b = e.b;
     Edge {

@@ -6,10 +6,10 @@ ghost use Prim.Native.Nat.{_+_, _-_, _*_, _<_, _≤_};
 ghost use lib.ListN.{length};
 ghost use Rattle.boundary.specs.declared.Edge.{Edge};
 ghost use Rattle.lists.specs.Lists.{fold};
-ghost use Rattle.clip.specs.Passes.{Path, samePlace, if-on, lineOf, joinsOf, movedOf, followed, stepOf, nowhere, traced};
-ghost use Rattle.clip.specs.Lent.{lineAt, linesFrom, putAt, apart, Beside, Holds, Tracks};
-use crate::Pen;
-use crate::Side;
+ghost use Rattle.clip.specs.Passes.{Path, samePlace, if-on, lineBetween, joinsOf, movedOf, followed, stepOf, unbegun, traced};
+ghost use Rattle.clip.specs.Lent.{lineAt, linesFrom, putAt, disjoint, Beside, Holds, Tracks};
+use crate::HalfPlane;
+use crate::PathEnds;
 use crate::State;
 use crate::parts;
 use crate::scan;
@@ -50,24 +50,24 @@ fn same_place(p: Point, q: Point) -> bool
 }
 
 // Whether a joint is needed from the path's end to q.
-fn joins(p: Pen, q: Point) -> bool
+fn joins(p: PathEnds, q: Point) -> bool
     ensures { λ r. ⌜ r ≡ joinsOf p q ⌝ }
 {
     (p.begun != 0) & !same_place(p.last, q)
 }
 
 fn line(p: Point, q: Point) -> Edge
-    ensures { λ r. ⌜ r ≡ lineOf p q ⌝ }
+    ensures { λ r. ⌜ r ≡ lineBetween p q ⌝ }
 {
     Edge { a: p, b: q }
 }
 
 // The path once e is written.
-fn moved(p: Pen, e: Edge) -> Pen
+fn moved(p: PathEnds, e: Edge) -> PathEnds
     ensures { λ r. ⌜ r ≡ movedOf p e ⌝ }
 {
     let last = e.b;
-    Pen {
+    PathEnds {
         begun: 1,
         start: Point {
             x: pick(p.begun == 0, e.a.x, p.start.x),
@@ -86,31 +86,31 @@ fn follow(w: &mut [f64], to: usize, room: usize, s: State, e: Edge, kept: bool) 
     if !kept {
         return s;
     }
-    let pen = s.pen;
-    let at = emit(w, to, room, s.at, line(pen.last, e.a), joins(pen, e.a));
+    let ends = s.ends;
+    let at = emit(w, to, room, s.at, line(ends.last, e.a), joins(ends, e.a));
     let next = emit(w, to, room, at, e, true);
     State {
-        pen: moved(pen, e),
+        ends: moved(ends, e),
         at: next,
     }
 }
 
 // Writes the parts of the line that stands at o.
-fn step(w: &mut [f64], side: Side, o: usize, to: usize, room: usize, s: State) -> State
+fn step(w: &mut [f64], side: HalfPlane, o: usize, to: usize, room: usize, s: State) -> State
     requires { ⌜ (o + 4 ≤ length (now w)) × (to + 4 * room ≤ length (now w)) × (s .at < 4611686018427387904) ⌝ }
     ensures { λ r. ⌜ (r .at ≤ s .at + 4) × Beside to (4 * room) (now (w .entry)) (now (w .exit))
         × ((t : Path) → Tracks to room (now (w .entry)) s t → Tracks to room (now (w .exit)) r (stepOf side t (lineAt (now (w .entry)) o))) ⌝ }
 {
     let e = scan::line_at(w, o);
     let m = parts::marked(side, e);
-    let a = follow(w, to, room, s, parts::first(m, e), m.fore);
-    follow(w, to, room, a, parts::second(m, e), m.cut & m.aft)
+    let a = follow(w, to, room, s, parts::first(m, e), m.startKept);
+    follow(w, to, room, a, parts::second(m, e), m.cut & m.endKept)
 }
 
 // Writes the parts of `count` lines, from line lo of the n that stand from `from` on.
 fn run(
     w: &mut [f64],
-    side: Side,
+    side: HalfPlane,
     from: usize,
     n: usize,
     to: usize,
@@ -119,7 +119,7 @@ fn run(
     count: usize,
     s: State,
 ) -> State
-    requires { ⌜ (from + 4 * n ≤ length (now w)) × (to + 4 * room ≤ length (now w)) × (lo + count ≤ n) × apart from (4 * n) to (4 * room) × (s .at ≤ 4 * n) ⌝ }
+    requires { ⌜ (from + 4 * n ≤ length (now w)) × (to + 4 * room ≤ length (now w)) × (lo + count ≤ n) × disjoint from (4 * n) to (4 * room) × (s .at ≤ 4 * n) ⌝ }
     ensures { λ r. ⌜ (r .at ≤ s .at + 4 * count) × Beside to (4 * room) (now (w .entry)) (now (w .exit))
         × ((t : Path) → Tracks to room (now (w .entry)) s t → Tracks to room (now (w .exit)) r (fold (stepOf side) t (linesFrom (now (w .entry)) from lo count))) ⌝ }
 {
@@ -134,11 +134,11 @@ fn run(
 }
 
 fn empty() -> State
-    ensures { λ r. ⌜ r ≡ record { pen = nowhere; at = 0 } ⌝ }
+    ensures { λ r. ⌜ r ≡ record { ends = unbegun; at = 0 } ⌝ }
 {
     let p = Point { x: 0.0, y: 0.0 };
     State {
-        pen: Pen {
+        ends: PathEnds {
             begun: 0,
             start: p,
             last: p,
@@ -151,26 +151,26 @@ fn empty() -> State
 // of which `room` are written.
 pub fn trace(
     w: &mut [f64],
-    side: Side,
+    side: HalfPlane,
     from: usize,
     n: usize,
     to: usize,
     room: usize,
     start: usize,
 ) -> usize
-    requires { ⌜ (from + 4 * n ≤ length (now w)) × (to + 4 * room ≤ length (now w)) × (start ≤ n) × apart from (4 * n) to (4 * room) ⌝ }
+    requires { ⌜ (from + 4 * n ≤ length (now w)) × (to + 4 * room ≤ length (now w)) × (start ≤ n) × disjoint from (4 * n) to (4 * room) ⌝ }
     ensures { λ r. ⌜ Beside to (4 * room) (now (w .entry)) (now (w .exit))
         × Holds to room (now (w .exit)) r (traced side (linesFrom (now (w .entry)) from start (n - start)) (linesFrom (now (w .entry)) from 0 start)) ⌝ }
 {
     let a = run(w, side, from, n, to, room, start, n - start, empty());
     let b = run(w, side, from, n, to, room, 0, start, a);
-    let pen = b.pen;
+    let ends = b.ends;
     emit(
         w,
         to,
         room,
         b.at,
-        line(pen.last, pen.start),
-        joins(pen, pen.start),
+        line(ends.last, ends.start),
+        joins(ends, ends.start),
     )
 }

@@ -3,11 +3,11 @@ ghost use mathlib.Core.Path.{_≡_};
 ghost use mathlib.Core.Bool.{cond};
 ghost use Prim.Native.Nat.{_+_, _-_, _*_, _≤_};
 ghost use lib.ListN.{length};
-ghost use Rattle.clip.specs.Passes.{marksOf, comesIn, surveyOf};
+ghost use Rattle.clip.specs.Passes.{marksOf, comesIn, firstPassOf};
 ghost use Rattle.clip.specs.Lent.{lineAt, lineIn, linesFrom};
+use crate::FirstPass;
+use crate::HalfPlane;
 use crate::Marks;
-use crate::Side;
-use crate::Survey;
 use crate::parts;
 use boundary::Edge;
 use boundary::Point;
@@ -37,7 +37,7 @@ fn column(y: bool) -> usize
 }
 
 // The marks of the line that stands at o: only the coordinate that is bounded is read.
-fn marks_at(w: &[f64], o: usize, s: Side) -> Marks
+fn marks_at(w: &[f64], o: usize, s: HalfPlane) -> Marks
     requires { ⌜ o + 4 ≤ length (now w) ⌝ }
     ensures { λ r. ⌜ r ≡ marksOf s (lineAt (now (w .entry)) o) ⌝ }
 {
@@ -49,26 +49,26 @@ fn marks_at(w: &[f64], o: usize, s: Side) -> Marks
 fn comes_in(before: bool, m: Marks) -> bool
     ensures { λ r. ⌜ r ≡ comesIn before m ⌝ }
 {
-    (m.fore & !before) | (m.aft & !m.fore)
+    (m.startKept & !before) | (m.endKept & !m.startKept)
 }
 
 // Looks at the n lines that stand from `from` on; the last is the one before the first. Where no line
 // comes in, all parts are marked as the last one is.
-pub fn surveyed(w: &[f64], from: usize, n: usize, s: Side) -> Survey
+pub fn first_pass(w: &[f64], from: usize, n: usize, s: HalfPlane) -> FirstPass
     requires { ⌜ (1 ≤ n) × (from + 4 * n ≤ length (now w)) ⌝ }
-    ensures { λ r. ⌜ (r ≡ surveyOf s (lineIn (now (w .entry)) from (n - 1)) (linesFrom (now (w .entry)) from 0 n)) × (r .start ≤ n) ⌝ }
+    ensures { λ r. ⌜ (r ≡ firstPassOf s (lineIn (now (w .entry)) from (n - 1)) (linesFrom (now (w .entry)) from 0 n)) × (r .start ≤ n) ⌝ }
 {
     let last = marks_at(w, from + 4 * (n - 1), s);
-    let kept = last.aft;
+    let kept = last.endKept;
     let mut before = kept;
     let mut i = 0;
     while i < n {
         let m = marks_at(w, from + 4 * i, s);
         if comes_in(before, m) {
-            return Survey { kept, start: i };
+            return FirstPass { kept, start: i };
         }
-        before = m.aft;
+        before = m.endKept;
         i += 1;
     }
-    Survey { kept, start: n }
+    FirstPass { kept, start: n }
 }

@@ -15,7 +15,7 @@ use Rattle.boundary.specs.declared.Point.{Point}
 use Rattle.boundary.specs.declared.Distance.{Distance}
 use Rattle.distance.specs.Nearest.{nearestOf, signedOf}
 use Rattle.boundary.specs.Outline.{edges}
-use Rattle.accept.specs.declared.Answer.the-variants.{Away}
+use Rattle.accept.specs.declared.Answer.the-variants.{DistanceWith}
 use Rattle.geometry.specs.Polygon.{containsOf}
 use Rattle.accept.specs.declared.Test.the-variants.{Passed}
 use Rattle.accept.specs.Refusals.{_refusing_when_, given}
@@ -30,7 +30,7 @@ use Rattle.search.proofs.LeastLaws.{least-of}
 use Rattle.nearest.specs.declared.Nearest.the-variants.{At}
 use Rattle.nearest.specs.Nearest.{nearestIn}
 use Rattle.nearest.specs.Answers.{nearestOutcome}
-use Rattle.nearest.proofs.Theorems.{least-is}
+use Rattle.nearest.proofs.NearestLeast.{least-is}
 use Rattle.grid.specs.Grid.{OutlineOn}
 use Rattle.grid.specs.Whole.{PointZ}
 use Rattle.exact.specs.Grid.{PointOn}
@@ -47,13 +47,13 @@ module _ (v : List Float) (cs : List ℕ) (passed : setTested v cs ≡ Passed) (
   outlines-some = let n = outlines-length v cs in omega arith
 
   -- the distance that the call answers is the one whose magnitude is taken
-  magnitude-is : (k : ℕ) → k < length os → (d : Distance) → distanceAnswer (outlineIn os k) p ≡ Away d → magnitudeAt os p k ≡ absOf (d .d)
+  magnitude-is : (k : ℕ) → k < length os → (d : Distance) → distanceAnswer (outlineIn os k) p ≡ DistanceWith d → magnitudeAt os p k ≡ absOf (d .d)
   unfolding magnitudeOf distanceAnswer queryTested given _refusing_when_
   magnitude-is k l d e =
       let o = outlineIn os k in
       let s = signedOf (nearestOf (edges o) p) p (containsOf (edges o) p) in
-      let f : distanceAnswer o p ≡ Away s = rw (outline-passes v cs passed k l, grid-in-field (on .x), grid-in-field (on .y)) in
-      let g : Away s ≡ Away d = sym f ∙ e in
+      let f : distanceAnswer o p ≡ DistanceWith s = rw (outline-passes v cs passed k l, grid-in-field (on .x), grid-in-field (on .y)) in
+      let g : DistanceWith s ≡ DistanceWith d = sym f ∙ e in
       let h : s ≡ d = cc in
       ap (λ (x : Distance). absOf (x .d)) h
 

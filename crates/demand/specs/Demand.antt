@@ -10,7 +10,7 @@ use Rattle.signs.specs.Signs.{absOf}
 use Rattle.boundary.specs.declared.Point.{Point}
 use Rattle.boundary.specs.declared.Distance.{Distance}
 use Rattle.boundary.specs.Outline.{edges}
-use Rattle.accept.specs.declared.Answer.the-variants.{Told, Measure, Away}
+use Rattle.accept.specs.declared.Answer.the-variants.{Count, Measure, DistanceWith}
 use Rattle.geometry.specs.Answers.{areaAnswer, locateAnswer, distanceAnswer}
 use Rattle.index.specs.Buffer.{IndexBuffer, shortBuffer}
 use Rattle.set.specs.Set.{Outline, outlinesOf, outlineIn}
@@ -31,9 +31,9 @@ pub record OutlineExact (o : Outline) (p : Point) (q : PointZ) (magnitude : Floa
   pub area : Float
   pub area-answer : areaAnswer o ≡ Measure area
   pub area-exact : Is 21 area (shoelaceZ whole)
-  pub location : locateAnswer o p ≡ Told (locationZ whole q)
+  pub location : locateAnswer o p ≡ Count (locationZ whole q)
   pub distance : Distance
-  pub distance-answer : distanceAnswer o p ≡ Away distance
+  pub distance-answer : distanceAnswer o p ≡ DistanceWith distance
   pub distance-near : SignedNear whole q (distance .d)
   -- `magnitude` is this distance's
   pub magnitude-is : magnitude ≡ absOf (distance .d)

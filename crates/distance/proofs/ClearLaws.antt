@@ -17,7 +17,7 @@ use Rattle.boundary.specs.declared.Edge.{Edge}
 use Rattle.boundary.specs.Line.{footOf}
 use Rattle.boundary.specs.Boxes.{PointOf, FieldValue, FieldPoint, FieldEdge}
 use Rattle.distance.specs.Nearest.{units16, roundingOf, flipped}
-use Rattle.distance.specs.Search.{clear}
+use Rattle.distance.specs.Search.{mostThreshold}
 use Rattle.boundary.proofs.FieldLaws.{field-is}
 use Rattle.boundary.proofs.AlongLaws.{param-share, along-at-most}
 
@@ -37,15 +37,15 @@ magnitude h = record { held = abs-held (h .held); size = h .size }
 field-short : {x : Float} → FieldValue x → Short x
 field-short h = let z = field-is h in is-short {z = z .0} (record { is = z .1 .is; near = le-trans (z .1 .near) (lit≤ tt) }) (h .fits)
 
-threshold : {q p : Point} → PointOf Short q → FieldPoint p → T (le (roundingOf q p) clear)
+threshold : {q p : Point} → PointOf Short q → FieldPoint p → T (le (roundingOf q p) mostThreshold)
 unfolding roundingOf mul
 threshold {q} {p} Q P =
     let m = max-one-of Magnitude (max-one-of Magnitude (max-one-of Magnitude (magnitude (field-short (P .x))) (magnitude (field-short (P .y)))) (magnitude (Q .x))) (magnitude (Q .y)) in
     mul-mono-left {x = units16} {y' = shortEnd} (record { fits = unfold fits in tt; finite = tt }) (m .held) (record { fits = unfold fits in tt; finite = tt }) (unfold le lt eq in tt) (m .size)
 
 -- so what is above 2 ^ -25 is above it
-pub above-threshold : {q p : Point} (m : Float) → PointOf Short q → FieldPoint p → lt clear m ≡ true → lt (roundingOf q p) m ≡ true
-above-threshold {q} {p} m Q P h = is-true (lt (roundingOf q p) m) (through-below (roundingOf q p) clear m (threshold Q P) (subst T (sym h) tt))
+pub above-threshold : {q p : Point} (m : Float) → PointOf Short q → FieldPoint p → lt mostThreshold m ≡ true → lt (roundingOf q p) m ≡ true
+above-threshold {q} {p} m Q P h = is-true (lt (roundingOf q p) m) (through-below (roundingOf q p) mostThreshold m (threshold Q P) (subst T (sym h) tt))
 
 -- what is divided by the signed distance has the sign of the normal
 pub away-signed : (inside : Bool) (x m : Float) → div binary64 x (flipped inside m) ≡ flipped inside (div binary64 x m)

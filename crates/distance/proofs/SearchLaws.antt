@@ -22,14 +22,14 @@ use Rattle.number.proofs.OrderLaws.{below-through, through-below, below-le, not
 use Rattle.boundary.specs.declared.Point.{Point}
 use Rattle.boundary.specs.declared.Edge.{Edge}
 use Rattle.boundary.specs.declared.Near.{Near}
-use Rattle.distance.specs.declared.Found.{Found}
+use Rattle.distance.specs.declared.FoundEdge.{FoundEdge}
 use Rattle.lists.specs.Lists.{run, fold, any}
 use Rattle.boundary.specs.Outline.{count, after, vertexAt, edgeAt, edges}
 use Rattle.boundary.specs.Line.{lessPoint, squaresOf, footOf, normalOf, lineNear}
-use Rattle.pieces.specs.Piece.{lineOf, pieceNear}
+use Rattle.pieces.specs.Piece.{pieceOf, pieceNear}
 use Rattle.distance.specs.Nearest.{nearer, farAway, nearestOf}
 use Rattle.boundary.specs.Boxes.{inField, pointInField, edgeInField, PointOf, FieldValue, FieldPoint, FieldEdge}
-use Rattle.distance.specs.Search.{margin, outside, gapSquares, lengthTo, foundOf, wins}
+use Rattle.distance.specs.Search.{margin, outside, gapSquares, lengthTo, foundOf, edgeWins}
 use Rattle.boundary.proofs.AlongLaws.{param-share}
 use Rattle.boundary.proofs.BoxLaws.{along-out, foot-short}
 use Rattle.lists.proofs.FoldLaws.{fold-run-next, fold-run-end, any-at}
@@ -53,14 +53,14 @@ clear-farther p q r Q R h =
 
 -- who is farther does not win, and who is nearer does
 module _ (i : ℕ) (c : Float) (j : ℕ) (d : Float) where
-  pub farther-loses : lt d c ≡ true → wins i c j d ≡ false
+  pub farther-loses : lt d c ≡ true → edgeWins i c j d ≡ false
   farther-loses h = rw (h, lt-asym d c h) (same (ltb i j))
     where
       same : (b : Bool) → cond b false false ≡ false
       same true = refl
       same false = refl
 
-  pub nearer-wins : lt c d ≡ true → wins i c j d ≡ true
+  pub nearer-wins : lt c d ≡ true → edgeWins i c j d ≡ true
   nearer-wins h = rw (h, lt-asym c d h) (same (ltb i j))
     where
       same : (b : Bool) → cond b true true ≡ true
@@ -95,25 +95,25 @@ module _ {e : Edge} {p : Point} (E : FieldEdge e) (P : FieldPoint p) where
       below-infinity (hypot-relative (x .is) (y .is) (le-trans (x .near) (lit≤ tt)) (le-trans (y .near) (lit≤ tt)) .is)
 
 -- ---- what an edge that was found says of its nearest point
-module _ (e : Edge) (i : ℕ) (p : Point) {f : Found} (is : f ≡ foundOf e i p) where
+module _ (e : Edge) (i : ℕ) (p : Point) {f : FoundEdge} (is : f ≡ foundOf e i p) where
   pub found-foot : f .q ≡ footOf e p
   unfolding foundOf
-  found-foot = ap (λ (g : Found). g .q) is
+  found-foot = ap (λ (g : FoundEdge). g .q) is
 
   pub found-near : record { d = lengthTo p (f .q); q = f .q; n = normalOf e } ≡ lineNear e p
   unfolding foundOf lineNear
-  found-near = ap (λ (g : Found). record { d = lengthTo p (g .q); q = g .q; n = normalOf e }) is
+  found-near = ap (λ (g : FoundEdge). record { d = lengthTo p (g .q); q = g .q; n = normalOf e }) is
 
   pub found-far : f .far ≡ clearLimit (squaresOf (lessPoint p (f .q)))
   unfolding foundOf
-  found-far = subst (λ (g : Found). g .far ≡ clearLimit (squaresOf (lessPoint p (g .q)))) (sym is) refl
+  found-far = subst (λ (g : FoundEdge). g .far ≡ clearLimit (squaresOf (lessPoint p (g .q)))) (sym is) refl
 
 -- ---- the loop: `best` is the nearest of the first i edges, or one that is still to come and nearer than all of those
 
-abbrev pub step : Point → Near → Edge → Near
-step p best e = nearer best (pieceNear (lineOf e) p)
+abbrev pub nearerStep : Point → Near → Edge → Near
+nearerStep p best e = nearer best (pieceNear (pieceOf e) p)
 
-pub record Searched (v : List Float) (p : Point) (i : ℕ) (best : Found) : Type 0 where
+pub record SearchedEdges (v : List Float) (p : Point) (i : ℕ) (best : FoundEdge) : Type 0 where
   pub within : i ≤ count v
   pub edge : best .i < count v
   pub found : best ≡ foundOf (edgeAt v (best .i)) (best .i) p
@@ -121,51 +121,51 @@ pub record Searched (v : List Float) (p : Point) (i : ℕ) (best : Found) : Type
   -- the nearest of the first i edges
   pub first : Near
   pub place : ((best .i < i) × (first ≡ lineNear (edgeAt v (best .i)) p)) ⊎ ((i ≤ best .i) × (lt (lineNear (edgeAt v (best .i)) p .d) (first .d) ≡ true))
-  pub left : fold (step p) first (run (edgeAt v) i (count v - i)) ≡ nearestOf (edges v) p
+  pub left : fold (nearerStep p) first (run (edgeAt v) i (count v - i)) ≡ nearestOf (edges v) p
 
 -- before the first turn, with any edge
 module _ (v : List Float) (p : Point) (k : ℕ) (l : k < count v) (short : PointOf Short (lessPoint p (footOf (edgeAt v k) p))) (finite : lt (lineNear (edgeAt v k) p .d) (inf false) ≡ true) where
-  all : fold (step p) (farAway p) (run (edgeAt v) 0 (count v - 0)) ≡ nearestOf (edges v) p
+  all : fold (nearerStep p) (farAway p) (run (edgeAt v) 0 (count v - 0)) ≡ nearestOf (edges v) p
   unfolding nearestOf edges
   all = rw (sub-zero (count v))
 
-  pub searched-first : Searched v p (cond (eqb k 0) 1 0) (foundOf (edgeAt v k) k p)
+  pub searched-first : SearchedEdges v p (cond (eqb k 0) 1 0) (foundOf (edgeAt v k) k p)
   unfolding foundOf pieceNear
   searched-first = at (eqb k 0) refl
     where
-      at : (b : Bool) → eqb k 0 ≡ b → Searched v p (cond b 1 0) (foundOf (edgeAt v k) k p)
+      at : (b : Bool) → eqb k 0 ≡ b → SearchedEdges v p (cond b 1 0) (foundOf (edgeAt v k) k p)
       at true e =
           let z : k ≡ 0 = eqb-true k 0 e in
-          let next = sym (fold-run-next (step p) (edgeAt v) (farAway p) 0 (count v) (omega arith)) ∙ all in
+          let next = sym (fold-run-next (nearerStep p) (edgeAt v) (farAway p) 0 (count v) (omega arith)) ∙ all in
           let f = rw z at finite in
           record { within = omega arith; edge = l; found = refl; short = short; first = lineNear (edgeAt v 0) p; place = inl (omega arith, rw z); left = rw f at next }
       at false e = record { within = omega arith; edge = l; found = refl; short = short; first = farAway p; place = inr (omega arith, finite); left = all }
 
 -- one edge more
-module _ {v : List Float} {p : Point} {i : ℕ} {best : Found} (r : Found) (S : Searched v p i best) (l : i < count v) (short : PointOf Short (lessPoint p (r .q))) (finite : lt (lineNear (edgeAt v i) p .d) (inf false) ≡ true) where
+module _ {v : List Float} {p : Point} {i : ℕ} {best : FoundEdge} (r : FoundEdge) (S : SearchedEdges v p i best) (l : i < count v) (short : PointOf Short (lessPoint p (r .q))) (finite : lt (lineNear (edgeAt v i) p .d) (inf false) ≡ true) where
   abbrev E : Edge
   E = edgeAt v (best .i)
 
   abbrev e : Edge
   e = edgeAt v i
 
-  next : fold (step p) (nearer (S .first) (lineNear e p)) (run (edgeAt v) (i + 1) (count v - (i + 1))) ≡ nearestOf (edges v) p
+  next : fold (nearerStep p) (nearer (S .first) (lineNear e p)) (run (edgeAt v) (i + 1) (count v - (i + 1))) ≡ nearestOf (edges v) p
   unfolding pieceNear
-  next = sym (fold-run-next (step p) (edgeAt v) (S .first) i (count v) l) ∙ S .left
+  next = sym (fold-run-next (nearerStep p) (edgeAt v) (S .first) i (count v) l) ∙ S .left
 
   -- it is the nearest of the first i + 1
-  taken : lt (lineNear e p .d) (S .first .d) ≡ true → r ≡ foundOf e i p → Searched v p (i + 1) r
+  taken : lt (lineNear e p .d) (S .first .d) ≡ true → r ≡ foundOf e i p → SearchedEdges v p (i + 1) r
   unfolding foundOf
-  taken c h = subst (Searched v p (i + 1)) (sym h) (record { within = omega arith; edge = l; found = refl; short = rw h at short; first = lineNear e p; place = inl (omega arith, refl); left = rw c at next })
+  taken c h = subst (SearchedEdges v p (i + 1)) (sym h) (record { within = omega arith; edge = l; found = refl; short = rw h at short; first = lineNear e p; place = inl (omega arith, refl); left = rw c at next })
 
   -- the best so far stays
-  passed : best .i < i → S .first ≡ lineNear E p → lt (lineNear e p .d) (lineNear E p .d) ≡ false → Searched v p (i + 1) best
+  passed : best .i < i → S .first ≡ lineNear E p → lt (lineNear e p .d) (lineNear E p .d) ≡ false → SearchedEdges v p (i + 1) best
   passed b same c =
       let c' : lt (lineNear e p .d) (S .first .d) ≡ false = rw same c in
       record { within = omega arith; edge = S .edge; found = S .found; short = S .short; first = S .first; place = inl (omega arith, same); left = rw c' at next }
 
   -- the best so far is still to come
-  ahead : i < best .i → lt (lineNear E p .d) (S .first .d) ≡ true → lt (lineNear E p .d) (lineNear e p .d) ≡ true → Searched v p (i + 1) best
+  ahead : i < best .i → lt (lineNear E p .d) (S .first .d) ≡ true → lt (lineNear E p .d) (lineNear e p .d) ≡ true → SearchedEdges v p (i + 1) best
   ahead b c d = record { within = omega arith; edge = S .edge; found = S .found; short = S .short; first = nearer (S .first) (lineNear e p); place = inr (omega arith, above (lt (lineNear e p .d) (S .first .d))); left = next }
     where
       above : (t : Bool) → lt (lineNear E p .d) (cond t (lineNear e p) (S .first) .d) ≡ true
@@ -173,7 +173,7 @@ module _ {v : List Float} {p : Point} {i : ℕ} {best : Found} (r : Found) (S : 
       above false = c
 
   -- the best so far is this edge
-  arrived : best .i ≡ i → lt (lineNear e p .d) (S .first .d) ≡ true → Searched v p (i + 1) best
+  arrived : best .i ≡ i → lt (lineNear e p .d) (S .first .d) ≡ true → SearchedEdges v p (i + 1) best
   arrived b c = record { within = omega arith; edge = S .edge; found = S .found; short = S .short; first = lineNear e p; place = inl (omega arith, ap (λ (j : ℕ). lineNear (edgeAt v j) p) (sym b)); left = rw c at next }
 
   not-above : lt (lineNear E p .d) (S .first .d) ≡ true → lt (lineNear E p .d) (lineNear e p .d) ≡ false → lt (lineNear e p .d) (S .first .d) ≡ true
@@ -183,22 +183,22 @@ module _ {v : List Float} {p : Point} {i : ℕ} {best : Found} (r : Found) (S : 
       let z = S .first .d in
       is-true (lt y z) (through-below y x z (not-below x y (left-not-nan x z (below-le x z c)) (left-not-nan y (inf false) (below-le y (inf false) finite)) d) (subst T (sym c) tt))
 
-  turn : (b c d : Bool) → ltb i (best .i) ≡ b → lt (lineNear E p .d) (lineNear e p .d) ≡ c → lt (lineNear e p .d) (lineNear E p .d) ≡ d → r ≡ cond (cond b (not c) d) (foundOf e i p) best → Searched v p (i + 1) r
+  turn : (b c d : Bool) → ltb i (best .i) ≡ b → lt (lineNear E p .d) (lineNear e p .d) ≡ c → lt (lineNear e p .d) (lineNear E p .d) ≡ d → r ≡ cond (cond b (not c) d) (foundOf e i p) best → SearchedEdges v p (i + 1) r
   turn true c d b' c' d' h = let b = ltb-true i (best .i) b' in ⊎-elim (λ s. absurd (lt-irrefl i (omega arith))) (λ s. go c c' h s) (S .place)
     where
-      go : (c : Bool) → lt (lineNear E p .d) (lineNear e p .d) ≡ c → r ≡ cond (not c) (foundOf e i p) best → ((i ≤ best .i) × (lt (lineNear E p .d) (S .first .d) ≡ true)) → Searched v p (i + 1) r
-      go true c h s = subst (Searched v p (i + 1)) (sym h) (ahead (ltb-true i (best .i) b') (s .1) c)
+      go : (c : Bool) → lt (lineNear E p .d) (lineNear e p .d) ≡ c → r ≡ cond (not c) (foundOf e i p) best → ((i ≤ best .i) × (lt (lineNear E p .d) (S .first .d) ≡ true)) → SearchedEdges v p (i + 1) r
+      go true c h s = subst (SearchedEdges v p (i + 1)) (sym h) (ahead (ltb-true i (best .i) b') (s .1) c)
       go false c h s = taken (not-above (s .1) c) h
   turn false c true b' c' d' h = ⊎-elim (λ s. taken (rw (s .1) d') h) (λ s. let q : best .i ≡ i = le-antisymm (ltb-false i (best .i) b') (s .0) in taken (rw q at (s .1)) h) (S .place)
-  turn false c false b' c' d' h = subst (Searched v p (i + 1)) (sym h) (⊎-elim (λ s. passed (s .0) (s .1) d') (λ s. let q : best .i ≡ i = le-antisymm (ltb-false i (best .i) b') (s .0) in arrived q (rw q at (s .1))) (S .place))
+  turn false c false b' c' d' h = subst (SearchedEdges v p (i + 1)) (sym h) (⊎-elim (λ s. passed (s .0) (s .1) d') (λ s. let q : best .i ≡ i = le-antisymm (ltb-false i (best .i) b') (s .0) in arrived q (rw q at (s .1))) (S .place))
 
-  pub searched-next : r ≡ cond (wins i (lineNear e p .d) (best .i) (lengthTo p (best .q))) (foundOf e i p) best → Searched v p (i + 1) r
+  pub searched-next : r ≡ cond (edgeWins i (lineNear e p .d) (best .i) (lengthTo p (best .q))) (foundOf e i p) best → SearchedEdges v p (i + 1) r
   searched-next h =
       let same : lengthTo p (best .q) ≡ lineNear E p .d = ap (λ (k : Near). k .d) (found-near E (best .i) p (S .found)) in
       turn (ltb i (best .i)) (lt (lineNear E p .d) (lineNear e p .d)) (lt (lineNear e p .d) (lineNear E p .d)) refl refl refl (rw same at h)
 
-pub searched-end : {v : List Float} {p : Point} {i : ℕ} {best : Found} → Searched v p i best → count v ≤ i → lineNear (edgeAt v (best .i)) p ≡ nearestOf (edges v) p
-searched-end {v} {p} {i} {best} S l = ⊎-elim (λ s. sym (s .1) ∙ sym (fold-run-end (step p) (edgeAt v) (S .first) i (count v) l) ∙ S .left) (λ s. let w = S .edge in let u = s .0 in absurd (lt-irrefl i (omega arith))) (S .place)
+pub searched-end : {v : List Float} {p : Point} {i : ℕ} {best : FoundEdge} → SearchedEdges v p i best → count v ≤ i → lineNear (edgeAt v (best .i)) p ≡ nearestOf (edges v) p
+searched-end {v} {p} {i} {best} S l = ⊎-elim (λ s. sym (s .1) ∙ sym (fold-run-end (nearerStep p) (edgeAt v) (S .first) i (count v) l) ∙ S .left) (λ s. let w = S .edge in let u = s .0 in absurd (lt-irrefl i (omega arith))) (S .place)
 
 -- ---- the edges of an outline whose numbers are all in the field
 module _ (v : List Float) (none : any (λ x. not (inField x)) v ≡ false) where

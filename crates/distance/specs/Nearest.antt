@@ -10,7 +10,7 @@ use Rattle.boundary.specs.declared.Edge.{Edge}
 use Rattle.boundary.specs.declared.Near.{Near}
 use Rattle.boundary.specs.declared.Distance.{Distance}
 use Rattle.lists.specs.Lists.{fold}
-use Rattle.pieces.specs.Piece.{lineOf, pieceNear}
+use Rattle.pieces.specs.Piece.{pieceOf, pieceNear}
 
 -- ---- `distance`: the first among equals
 abbrev pub nearer : Near → Near → Near
@@ -22,7 +22,7 @@ farAway p = record { d = inf false; q = p; n = record { x = one; y = zeroᶠ } }
 
 unfoldable pub nearestOf : List Edge → Point → Near
 unfolding fold pieceNear
-nearestOf es p = fold (λ best e. nearer best (pieceNear (lineOf e) p)) (farAway p) es
+nearestOf es p = fold (λ best e. nearer best (pieceNear (pieceOf e) p)) (farAway p) es
 
 -- ---- `signed`: the magnitude is kept, and the threshold selects only the normal
 -- 16 × 2 ^ -52

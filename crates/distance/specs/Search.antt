@@ -10,7 +10,7 @@ use Rattle.number.specs.Exact.{zeroᶠ}
 use Rattle.number.specs.Hypot.{hypotOf, clearLimit}
 use Rattle.boundary.specs.declared.Point.{Point}
 use Rattle.boundary.specs.declared.Edge.{Edge}
-use Rattle.distance.specs.declared.Found.{Found}
+use Rattle.distance.specs.declared.FoundEdge.{FoundEdge}
 use Rattle.boundary.specs.Outline.{count, edgeAt, edges}
 use Rattle.boundary.specs.Line.{lessPoint, squaresOf, footOf, lineNear}
 use Rattle.boundary.specs.Boxes.{lesser, greater}
@@ -21,8 +21,8 @@ abbrev pub margin : Float
 margin = fin false 1 (negsuc 19)
 
 -- 2 ^ -25: in the field no threshold of `signed` is above it
-abbrev pub clear : Float
-clear = fin false 1 (negsuc 24)
+abbrev pub mostThreshold : Float
+mostThreshold = fin false 1 (negsuc 24)
 
 -- how far p is outside the ends a and b, widened, of one axis
 unfoldable pub outside : Float → Float → Float → Float
@@ -37,15 +37,15 @@ abbrev pub lengthTo : Point → Point → Float
 lengthTo p q = hypotOf (sub binary64 (p .x) (q .x)) (sub binary64 (p .y) (q .y))
 
 -- edge e, which has the number i, its point nearest to p, and the squared distance from which on an edge is clearly farther
-unfoldable pub foundOf : Edge → ℕ → Point → Found
+unfoldable pub foundOf : Edge → ℕ → Point → FoundEdge
 foundOf e i p = let q = footOf e p in record { i = i; q = q; far = clearLimit (squaresOf (lessPoint p q)) }
 
 -- the i-th edge, at the distance c, wins over the j-th, at the distance d: it is nearer, or the first of two that are equally near
-abbrev pub wins : ℕ → Float → ℕ → Float → Bool
-wins i c j d = cond (ltb i j) (not (lt d c)) (lt c d)
+abbrev pub edgeWins : ℕ → Float → ℕ → Float → Bool
+edgeWins i c j d = cond (ltb i j) (not (lt d c)) (lt c d)
 
 -- f is the edge of the outline v that has its nearest point to p, the first among equals
-pub record NearestEdge (v : List Float) (p : Point) (f : Found) : Type 0 where
+pub record NearestEdge (v : List Float) (p : Point) (f : FoundEdge) : Type 0 where
   pub edge : f .i < count v
   pub found : f ≡ foundOf (edgeAt v (f .i)) (f .i) p
   pub nearest : lineNear (edgeAt v (f .i)) p ≡ nearestOf (edges v) p

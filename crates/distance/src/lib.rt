@@ -5,7 +5,7 @@ use boundary::Point;
 
 // An edge's number, its point nearest to another, and the squared distance from which on an edge is clearly
 // farther.
-pub struct Found {
+pub struct FoundEdge {
     pub i: usize,
     pub q: Point,
     pub far: f64,

@@ -10,8 +10,8 @@ ghost use Rattle.boundary.specs.Outline.{count, edges};
 ghost use Rattle.boundary.specs.Boxes.{inField, pointInField, edgeInField, PointOf};
 ghost use Rattle.boundary.specs.Line.{lessPoint, squaresOf, footOf, normalOf, lineNear};
 ghost use Rattle.distance.specs.Nearest.{nearestOf, roundingOf, flipped, signedOf};
-ghost use Rattle.distance.specs.Search.{outside, gapSquares, lengthTo, foundOf, wins, NearestEdge};
-use crate::Found;
+ghost use Rattle.distance.specs.Search.{outside, gapSquares, lengthTo, foundOf, edgeWins, NearestEdge};
+use crate::FoundEdge;
 use boundary::Distance;
 use boundary::Edge;
 use boundary::Point;
@@ -63,12 +63,12 @@ fn squares_to(a: Point, p: Point) -> f64
 }
 
 // Edge e, the i-th, with its point nearest to p.
-fn found(e: Edge, i: usize, p: Point) -> Found
+fn found(e: Edge, i: usize, p: Point) -> FoundEdge
     requires { ⌜ (edgeInField e ≡ true) × (pointInField p ≡ true) ⌝ }
     ensures { λ r. ⌜ (r ≡ foundOf e i p) × PointOf Short (lessPoint p (footOf e p)) × (lt (lineNear e p .d) (inf false) ≡ true) ⌝ }
 {
     let q = line::foot(e, p);
-    Found {
+    FoundEdge {
         i,
         q,
         far: clear_limit(squares_to(q, p)),
@@ -93,7 +93,7 @@ fn either(c: bool, a: Point, b: Point) -> Point
 // Whether a, of edge i, wins over b, of edge j.
 fn is_better(p: Point, a: Point, i: usize, b: Point, j: usize) -> bool
     requires { ⌜ PointOf Short (lessPoint p a) × PointOf Short (lessPoint p b) ⌝ }
-    ensures { λ r. ⌜ r ≡ wins i (lengthTo p a) j (lengthTo p b) ⌝ }
+    ensures { λ r. ⌜ r ≡ edgeWins i (lengthTo p a) j (lengthTo p b) ⌝ }
 {
     let first = i < j;
     is_nearer(p, either(first, b, a), either(first, a, b)) != first
@@ -101,10 +101,10 @@ fn is_better(p: Point, a: Point, i: usize, b: Point, j: usize) -> bool
 
 // The winner of the best so far and edge e, the i-th: by its box, by the squared distances, and by the distances
 // where those are close.
-fn nearer_edge(best: Found, e: Edge, i: usize, p: Point) -> Found
+fn nearer_edge(best: FoundEdge, e: Edge, i: usize, p: Point) -> FoundEdge
     requires { ⌜ (edgeInField e ≡ true) × (pointInField p ≡ true)
         × PointOf Short (lessPoint p (best .q)) × (best .far ≡ clearLimit (squaresOf (lessPoint p (best .q)))) ⌝ }
-    ensures { λ r. ⌜ (r ≡ cond (wins i (lineNear e p .d) (best .i) (lengthTo p (best .q))) (foundOf e i p) best)
+    ensures { λ r. ⌜ (r ≡ cond (edgeWins i (lineNear e p .d) (best .i) (lengthTo p (best .q))) (foundOf e i p) best)
         × PointOf Short (lessPoint p (r .q)) × (lt (lineNear e p .d) (inf false) ≡ true) ⌝ }
 {
     if best.far < gap_squares(e, p) {
@@ -155,7 +155,7 @@ fn first_turn(k: usize) -> usize
 // The edge that has the outline's nearest point to (x, y), the first among equals. The point comes as two
 // numbers: those of a `Point` would be written to memory one by one and read back as one, which the processor
 // has to wait for.
-fn edge_near(v: &[f64], x: f64, y: f64) -> Found
+fn edge_near(v: &[f64], x: f64, y: f64) -> FoundEdge
     requires { ⌜ (any (λ x. not (inField x)) (now v) ≡ false) × (pointInField (record { x = x; y = y }) ≡ true) × (0 < count (now v)) ⌝ }
     ensures { λ r. ⌜ NearestEdge (now (v .entry)) (record { x = x; y = y }) r ⌝ }
 {
@@ -172,7 +172,7 @@ fn edge_near(v: &[f64], x: f64, y: f64) -> Found
 }
 
 // The same of a point.
-pub fn nearest_edge(v: &[f64], p: Point) -> Found
+pub fn nearest_edge(v: &[f64], p: Point) -> FoundEdge
     requires { ⌜ (any (λ x. not (inField x)) (now v) ≡ false) × (pointInField p ≡ true) × (0 < count (now v)) ⌝ }
     ensures { λ r. ⌜ NearestEdge (now (v .entry)) p r ⌝ }
 {
@@ -229,7 +229,7 @@ fn signed(e: Edge, q: Point, m: f64, p: Point, inside: bool) -> Distance
 
 // The signed distance of p from the outline's edges, and the normal there, where f is the edge that has the
 // nearest point.
-pub fn distance(v: &[f64], f: Found, p: Point, inside: bool) -> Distance
+pub fn distance(v: &[f64], f: FoundEdge, p: Point, inside: bool) -> Distance
     requires { ⌜ (any (λ x. not (inField x)) (now v) ≡ false) × (pointInField p ≡ true) × NearestEdge (now v) p f ⌝ }
     ensures { λ r. ⌜ r ≡ signedOf (nearestOf (edges (now (v .entry))) p) p inside ⌝ }
 {

@@ -12,7 +12,7 @@ use Rattle.algebra.specs.Order.{_≦_, _≺_, ≤ℤ-or-<ℤ, ≤ℤ-antisym, �
 use Rattle.number.specs.Exact.{Is}
 use Rattle.number.proofs.Basics.{or-l, or-split}
 use Rattle.number.proofs.Compare.{same-bool, lt-true, lt-false, not-lt, lt-is, le-is}
-use Rattle.geometry.specs.Polygon.{between}
+use Rattle.geometry.specs.Polygon.{betweenEnds}
 use Rattle.grid.specs.Whole.{betweenZ}
 
 -- from the lesser end to the greater
@@ -26,16 +26,16 @@ upward x y q l =
     level h k = and-i (leZ x q) (leZ q y) (≤ℤ-trans l h .le) (≤ℤ-trans k l .le)
 
 module _ {k : ℕ} {u v w : Float} {x y q : ℤ} (h : Is k u x) (g : Is k v y) (f : Is k w q) where
-  rising : x ≦ y → between u v w ≡ betweenZ x y q
+  rising : x ≦ y → betweenEnds u v w ≡ betweenZ x y q
   rising l = rw (lt-is g h, lt-is h g, lt-false l) (ap₂ _&&_ (le-is h f) (le-is f (go (ltZ x y) refl)) ∙ upward x y q l)
     where
       go : (b : Bool) → ltZ x y ≡ b → Is k (cond b v u) y
       go true e = g
       go false e = subst (Is k u) (≤ℤ-antisym l (not-lt e)) h
 
-  falling : y ≺ x → between u v w ≡ betweenZ x y q
+  falling : y ≺ x → betweenEnds u v w ≡ betweenZ x y q
   unfolding betweenZ
   falling l = rw (lt-is g h, lt-is h g, lt-true l, lt-false (<ℤ→≤ℤ l)) (ap₂ _&&_ (le-is g f) (le-is f h) ∙ upward y x q (<ℤ→≤ℤ l) ∙ or-comm (leZ y q && leZ q x) (leZ x q && leZ q y))
 
-  pub between-is : between u v w ≡ betweenZ x y q
+  pub between-is : betweenEnds u v w ≡ betweenZ x y q
   between-is = ⊎-elim rising falling (≤ℤ-or-<ℤ x y)

@@ -46,8 +46,8 @@ module _ (n d b i c x : ℤ) (d-is : d ≡ i *ℤ c) (i-is : i *ℤ i ≡ pos 1)
   σ = n ∷ d ∷ b ∷ i ∷ c ∷ x ∷ []
 
   -- times d * d, or times c * c
-  pub cleared : n *ℤ d -ℤ (x -ℤ b) *ℤ (d *ℤ d) ≡ (i *ℤ n +ℤ b *ℤ c -ℤ x *ℤ c) *ℤ c
-  cleared = eq-from σ (eq (ap (λ (u : ℤ). n *ℤ u) d-is) ∷ eq (ap₂ (λ (u v : ℤ). (x -ℤ b) *ℤ (u *ℤ v)) d-is d-is) ∷ eq (ap (λ (u : ℤ). u *ℤ (c *ℤ c *ℤ (x -ℤ b))) i-is) ∷ []) (search quote depth 30) (omega arith)
+  pub denominator-cleared : n *ℤ d -ℤ (x -ℤ b) *ℤ (d *ℤ d) ≡ (i *ℤ n +ℤ b *ℤ c -ℤ x *ℤ c) *ℤ c
+  denominator-cleared = eq-from σ (eq (ap (λ (u : ℤ). n *ℤ u) d-is) ∷ eq (ap₂ (λ (u v : ℤ). (x -ℤ b) *ℤ (u *ℤ v)) d-is d-is) ∷ eq (ap (λ (u : ℤ). u *ℤ (c *ℤ c *ℤ (x -ℤ b))) i-is) ∷ []) (search quote depth 30) (omega arith)
 
   pub at-crossing : i *ℤ n +ℤ b *ℤ c ≡ x *ℤ c → n ≡ (x -ℤ b) *ℤ d
   at-crossing e = eq-from σ (eq (ap (λ (u : ℤ). i *ℤ u) e) ∷ eq (ap (λ (u : ℤ). u *ℤ n) i-is) ∷ eq (ap (λ (u : ℤ). (x -ℤ b) *ℤ u) d-is) ∷ []) (search quote depth 30) (omega arith)

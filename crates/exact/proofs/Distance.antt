@@ -34,7 +34,7 @@ use Rattle.grid.specs.Whole.{PointZ, EdgeZ, onEdgeZ, boundaryZ, insideZ, locati
 use Rattle.exact.specs.Grid.{PointOn, EdgeOn, EdgesOn}
 use Rattle.lists.specs.Lists.Each.{none, more}
 use Rattle.grid.specs.Distance.{lengthZ, numZ, denZ}
-use Rattle.exact.specs.Distance.{part, AtMost, AtLeast, Near24, NearLeast, SignedNear}
+use Rattle.exact.specs.Distance.{tolerance, AtMost, AtLeast, Near24, NearLeast, SignedNear}
 use Rattle.lists.proofs.FoldLaws.{every-fails}
 use Rattle.lists.specs.Lists.Some.{here, there}
 use Rattle.exact.proofs.Location.{contains-exact}
@@ -62,7 +62,7 @@ lengths-above (more E r) (h, s) = (length-above E h, lengths-above r s)
 -- ---- the least over the edges
 -- what is at least u away is at least anything less away
 less-at-least : {u w num den : ℤ} → pos 0 ≦ den → u ≦ w → AtLeast w num den → AtLeast u num den
-less-at-least {u} {w} {num} {den} d0 h a = record { holds = λ k. ≤ℤ-trans (shrink part k) (a .holds (≤ℤ-trans k h)) }
+less-at-least {u} {w} {num} {den} d0 h a = record { holds = λ k. ≤ℤ-trans (shrink tolerance k) (a .holds (≤ℤ-trans k h)) }
   where
     shrink : (p : ℤ) → p ≦ u → (u -ℤ p) *ℤ (u -ℤ p) *ℤ den ≦ (w -ℤ p) *ℤ (w -ℤ p) *ℤ den
     shrink p k = mul-mono den d0 (sq-mono {x = u -ℤ p} {y = w -ℤ p} (le-from (u ∷ p ∷ []) (L.le k ∷ []) (search quote depth 30) (omega arith)) (le-from (u ∷ w ∷ p ∷ []) (L.le h ∷ []) (search quote depth 30) (omega arith)))
@@ -133,7 +133,7 @@ module _ {p : Point} {q : PointZ} (P : PointOn p q) where
   -- a point of the grid that is on no edge is more than 2 ^ -24 of a step from each
   none-at-zero : {es : List Edge} {fs : List EdgeZ} → EdgesOn es fs → Long fs → Every (λ f. onEdgeZ q f ≡ false) fs → Some (λ f. AtMost (pos 0) (numZ f q) (denZ f q)) fs → ⊥
   unfolding Every
-  none-at-zero (more {y = f} E r) (l, ls) (o, os) (here m) = too-near part (numZ f q) (denZ f q) (record { lt = tt }) (off-edge-apart f q l (λ t. subst T o t)) (den-small E P l) (m .holds)
+  none-at-zero (more {y = f} E r) (l, ls) (o, os) (here m) = too-near tolerance (numZ f q) (denZ f q) (record { lt = tt }) (off-edge-apart f q l (λ t. subst T o t)) (den-small E P l) (m .holds)
   none-at-zero (more E r) (l, ls) (o, os) (there m) = none-at-zero r ls os m
 
 -- ---- the sign

@@ -28,12 +28,12 @@ use Rattle.boundary.specs.Line.{wayOf, squaresOf, paramOf, alongOf, footOf, lin
 use Rattle.grid.specs.Grid.{OnGrid}
 use Rattle.grid.specs.Whole.{PointZ, EdgeZ}
 use Rattle.exact.specs.Grid.{PointOn, EdgeOn}
-use Rattle.grid.specs.Distance.{Stand, standOf, dotZ, lengthZ, denOf, numZ, denZ}
-use Rattle.exact.specs.Distance.{step, part, Near24}
-use Rattle.grid.specs.Distance.Stand.{before, beside, past}
+use Rattle.grid.specs.Distance.{Region, regionOf, dotZ, lengthZ, denOf, numZ, denZ}
+use Rattle.exact.specs.Distance.{step, tolerance, Near24}
+use Rattle.grid.specs.Distance.Region.{beforeStart, beside, pastEnd}
 use Rattle.exact.proofs.OneEdge.{difference, product}
 use Rattle.grid.proofs.LeastDistance.{reach-square}
-use Rattle.grid.proofs.Standing.{stands, reach}
+use Rattle.grid.proofs.Regions.{in-region, reach}
 use Rattle.exact.proofs.Parameter.{U, E, U0, E0, one-is, Param, clamped}
 use Rattle.exact.proofs.Chain as C
 
@@ -43,7 +43,7 @@ in-units {z = z} h = record { is = rescale 1064 (h .is); near = rw (natAbs-mul z
 
 -- ---- one axis: from the foot to the point
 -- u is x units, and within 3 × 2 ^ -31 of W / l2 steps
-record Away (u : Float) (l2 W : ℤ) : Type 0 where
+record DistanceWith (u : Float) (l2 W : ℤ) : Type 0 where
   x : ℤ
   is : Is 1074 u x
   size : Within x (pos (2 ^ 1087))
@@ -79,7 +79,7 @@ module _ {a b t : Float} {A B l2 D : ℤ} (ha : OnGrid a A) (hb : OnGrid b B) (p
       go true e = record { y = B *ℤ step; is = in-units hb .is; at = C.foot-end axis (eq→ (pt .is) one-is (subst T (sym e) tt)) }
       go false e = moved
 
-  away : {p : Float} {P : ℤ} → OnGrid p P → pos 0 ≺ l2 → Away (sub binary64 p (alongOf a b t)) l2 ((P -ℤ A) *ℤ l2 -ℤ (B -ℤ A) *ℤ D)
+  away : {p : Float} {P : ℤ} → OnGrid p P → pos 0 ≺ l2 → DistanceWith (sub binary64 p (alongOf a b t)) l2 ((P -ℤ A) *ℤ l2 -ℤ (B -ℤ A) *ℤ D)
   away {P = P} hp L0 =
       let p-in : Within P (pos (2 ^ 20)) = within-natAbs (hp .near) in
       let y-in : natAbs (foot .y) ≤ (2 ^ 63 + 2 ^ 62 + 2 ^ 12) * 2 ^ 1022 = le-of-within (foot .at .size) in
@@ -104,12 +104,12 @@ module _ (num den w1 w2 s l K : ℤ) (l0 : pos 0 ≺ l) (d0 : pos 0 ≦ den) (sa
 -- ---- the denominator
 pub den-nonneg : (f : EdgeZ) (q : PointZ) → pos 0 ≺ lengthZ f → pos 0 ≦ denZ f q
 unfolding denZ
-den-nonneg f q L0 = go (standOf f q)
+den-nonneg f q L0 = go (regionOf f q)
   where
-    go : (s : Stand) → pos 0 ≦ denOf s f
-    go before = record { le = tt }
+    go : (s : Region) → pos 0 ≦ denOf s f
+    go beforeStart = record { le = tt }
     go beside = <ℤ→≤ℤ L0
-    go past = record { le = tt }
+    go pastEnd = record { le = tt }
 
 -- ---- the edge
 module _ {e : Edge} {f : EdgeZ} {p : Point} {q : PointZ} (G : EdgeOn e f) (P : PointOn p q) (L0 : pos 0 ≺ lengthZ f) where
@@ -130,12 +130,12 @@ module _ {e : Edge} {f : EdgeZ} {p : Point} {q : PointZ} (G : EdgeOn e f) (P : P
 
   pub den-small : denZ f q ≦ pos (2 ^ 43)
   unfolding denZ
-  den-small = go (standOf f q)
+  den-small = go (regionOf f q)
     where
-      go : (s : Stand) → denOf s f ≦ pos (2 ^ 43)
-      go before = record { le = tt }
+      go : (s : Region) → denOf s f ≦ pos (2 ^ 43)
+      go beforeStart = record { le = tt }
       go beside = within-natAbs (length-is .near) .high
-      go past = record { le = tt }
+      go pastEnd = record { le = tt }
 
   abbrev dotOf : Float
   dotOf = add binary64 (mul binary64 (sub binary64 (p .x) (e .a .x)) (wayOf e .x)) (mul binary64 (sub binary64 (p .y) (e .a .y)) (wayOf e .y))
@@ -153,21 +153,21 @@ module _ {e : Edge} {f : EdgeZ} {p : Point} {q : PointZ} (G : EdgeOn e f) (P : P
       some (pos n) h = omega ord
       some (negsuc n) h = zero-lt-suc n
 
-  param : Param (paramOf e p) l2 (reach (standOf f q) dot l2)
+  param : Param (paramOf e p) l2 (reach (regionOf f q) dot l2)
   unfolding paramOf
-  param = rw (lt-is (zero-is 20) (length-is .is), lt-true L0) (clamped dot l2 L0 divided (standOf f q) (stands dot l2))
+  param = rw (lt-is (zero-is 20) (length-is .is), lt-true L0) (clamped dot l2 L0 divided (regionOf f q) (in-region dot l2))
 
   -- l2 times the way from the edge's nearest point to q, of each axis
   abbrev wayX : ℤ
-  wayX = (q .x -ℤ f .a .x) *ℤ l2 -ℤ (f .b .x -ℤ f .a .x) *ℤ reach (standOf f q) dot l2
+  wayX = (q .x -ℤ f .a .x) *ℤ l2 -ℤ (f .b .x -ℤ f .a .x) *ℤ reach (regionOf f q) dot l2
 
   abbrev wayY : ℤ
-  wayY = (q .y -ℤ f .a .y) *ℤ l2 -ℤ (f .b .y -ℤ f .a .y) *ℤ reach (standOf f q) dot l2
+  wayY = (q .y -ℤ f .a .y) *ℤ l2 -ℤ (f .b .y -ℤ f .a .y) *ℤ reach (regionOf f q) dot l2
 
-  away-x : Away (sub binary64 (p .x) (alongOf (e .a .x) (e .b .x) (paramOf e p))) l2 wayX
+  away-x : DistanceWith (sub binary64 (p .x) (alongOf (e .a .x) (e .b .x) (paramOf e p))) l2 wayX
   away-x = away (G .a .x) (G .b .x) param (P .x) L0
 
-  away-y : Away (sub binary64 (p .y) (alongOf (e .a .y) (e .b .y) (paramOf e p))) l2 wayY
+  away-y : DistanceWith (sub binary64 (p .y) (alongOf (e .a .y) (e .b .y) (paramOf e p))) l2 wayY
   away-y = away (G .a .y) (G .b .y) param (P .y) L0
 
   root-near : HypotNear (hypotOf (sub binary64 (p .x) (alongOf (e .a .x) (e .b .x) (paramOf e p))) (sub binary64 (p .y) (alongOf (e .a .y) (e .b .y) (paramOf e p)))) (away-x .x) (away-y .x)
@@ -184,11 +184,11 @@ module _ {e : Edge} {f : EdgeZ} {p : Point} {q : PointZ} (G : EdgeOn e f) (P : P
         is = root-near .is;
         plus = root-near .plus;
         above = record {
-          holds = fraction-above (numZ f q) (denZ f q) wayX wayY step l2 ((d +ℤ part) *ℤ (d +ℤ part)) L0 (den-nonneg f q L0) (reach-square f q)
+          holds = fraction-above (numZ f q) (denZ f q) wayX wayY step l2 ((d +ℤ tolerance) *ℤ (d +ℤ tolerance)) L0 (den-nonneg f q L0) (reach-square f q)
               (C.above (pos (2 ^ 1033)) U d (away-x .x) (away-y .x) (wayX *ℤ step) (wayY *ℤ step) l2 g0 Ug L0 (root-near .plus) (away-x .size) (away-y .size) (away-x .near) (away-y .near) (root-near .near));
         };
         below = record {
-          holds = λ k. fraction-below (numZ f q) (denZ f q) wayX wayY step l2 ((d -ℤ part) *ℤ (d -ℤ part)) L0 (den-nonneg f q L0) (reach-square f q)
+          holds = λ k. fraction-below (numZ f q) (denZ f q) wayX wayY step l2 ((d -ℤ tolerance) *ℤ (d -ℤ tolerance)) L0 (den-nonneg f q L0) (reach-square f q)
               (C.below (pos (2 ^ 1033)) U d (away-x .x) (away-y .x) (wayX *ℤ step) (wayY *ℤ step) l2 g0 Ug L0 (root-near .plus) (away-x .size) (away-y .size) (away-x .near) (away-y .near) (root-near .near) k);
         };
       }

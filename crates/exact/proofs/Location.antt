@@ -7,7 +7,7 @@ use lib.Dec.{T}
 use lib.Ieee.{unlike}
 use Rattle.boundary.specs.declared.Point.{Point}
 use Rattle.boundary.specs.declared.Edge.{Edge}
-use Rattle.lists.specs.Lists.{fold, any, oddly, Every}
+use Rattle.lists.specs.Lists.{fold, any, oddMany, Every}
 use Rattle.geometry.specs.Polygon.{crossesOf, containsOf, onEdge, locateOf}
 use Rattle.grid.specs.Whole.{PointZ, EdgeZ, onEdgeZ, boundaryZ, crossesZ, insideZ, locationZ}
 use Rattle.exact.specs.Grid.{PointOn, EdgesOn}
@@ -29,7 +29,7 @@ module _ {p : Point} {q : PointZ} (P : PointOn p q) where
 
 -- beyond the boundary
 pub contains-exact : {es : List Edge} {fs : List EdgeZ} {p : Point} {q : PointZ} → EdgesOn es fs → PointOn p q → boundaryZ fs q ≡ false → containsOf es p ≡ insideZ fs q
-unfolding containsOf oddly insideZ boundaryZ
+unfolding containsOf oddMany insideZ boundaryZ
 contains-exact {fs = fs} {q = q} r P h = inside-from P false r (every-fails (onEdgeZ q) fs h)
 
 pub location-exact : {es : List Edge} {fs : List EdgeZ} {p : Point} {q : PointZ} → EdgesOn es fs → PointOn p q → locateOf es p ≡ locationZ fs q

@@ -25,14 +25,14 @@ use Rattle.boundary.specs.Outline.{count, vertexAt, vertices, edges}
 use Rattle.accept.specs.declared.Test.{Test}
 use Rattle.accept.specs.declared.Test.the-variants.{Passed, Failed}
 use Rattle.accept.specs.declared.Answer.{Answer}
-use Rattle.accept.specs.declared.Answer.the-variants.{Told}
+use Rattle.accept.specs.declared.Answer.the-variants.{Count}
 use Rattle.accept.specs.declared.Refusal.the-variants.{ShortBuffer}
 use Rattle.accept.specs.Area.{areaOf}
 use Rattle.accept.specs.Refusals.{given, samePoint, negativeArea, shapeTested, outlineTested}
 use Rattle.accept.specs.Answers.{Outcome, refusedWith}
-use Rattle.geometry.specs.Making.{kept, keptCount, numbers, turned, makeTested, madeOf, makeOutcome}
+use Rattle.geometry.specs.Making.{kept, keptCount, coordinatesOf, turned, makeTested, madeOf, makeOutcome}
 use Rattle.grid.specs.Grid.{OutlineOn}
-use Rattle.grid.specs.Whole.{PointZ, EdgeZ, edgeZ, crossZ, shoelaceZ}
+use Rattle.grid.specs.Whole.{PointZ, EdgeZ, edgeZ, shoelaceTermZ, shoelaceZ}
 use Rattle.exact.specs.Grid.{PointOn, EdgeOn, EdgesOn}
 use Rattle.exact.specs.OneOutline.{MadeOn}
 use Rattle.lists.proofs.RunLaws.{length-run}
@@ -70,15 +70,15 @@ same-turned qs = loop-turned edgeZ (λ b e. b || sameEnds e) (λ b. b) (λ b e f
 
 -- ---- tests 8 and 9: backwards, the shoelace sum is the opposite
 shoelace-turned : (qs : List PointZ) → shoelaceZ (loop edgeZ (reverse qs)) ≡ negℤ (shoelaceZ (loop edgeZ qs))
-unfolding shoelaceZ crossZ
+unfolding shoelaceZ shoelaceTermZ
 shoelace-turned qs =
-    loop-turned edgeZ (λ z e. z +ℤ crossZ e) negℤ
-    (λ z e f. ring (z ∷ crossZ e ∷ crossZ f ∷ []) (search quote depth 30) tt)
+    loop-turned edgeZ (λ z e. z +ℤ shoelaceTermZ e) negℤ
+    (λ z e f. ring (z ∷ shoelaceTermZ e ∷ shoelaceTermZ f ∷ []) (search quote depth 30) tt)
     (λ z a b. ring (z ∷ a .x ∷ a .y ∷ b .x ∷ b .y ∷ []) (search quote depth 30) tt) (pos 0) qs
 
 -- ---- an outline of negative area, reversed
-edges-numbers : {ps : List Point} {qs : List PointZ} → Each PointOn ps qs → EdgesOn (edges (numbers ps)) (loop edgeZ qs)
-edges-numbers {ps} r = rw (edges-loop (numbers ps), vertices-numbers ps) (loop-on r)
+edges-numbers : {ps : List Point} {qs : List PointZ} → Each PointOn ps qs → EdgesOn (edges (coordinatesOf ps)) (loop edgeZ qs)
+edges-numbers {ps} r = rw (edges-loop (coordinatesOf ps), vertices-numbers ps) (loop-on r)
 
 length-vertices : (v : List Float) → length (vertices v) ≡ count v
 unfolding vertices
@@ -89,7 +89,7 @@ even-length {w} s = let h = eqb-false (length w % 2) 1 (s .even) in omega arith
 
 module _ {w : List Float} {qs : List PointZ} (s : Shape w) (r : Each PointOn (vertices w) qs) where
   abbrev back : List Float
-  back = numbers (reverse (vertices w))
+  back = coordinatesOf (reverse (vertices w))
 
   back-length : length back ≡ length w
   back-length = length-numbers (reverse (vertices w)) ∙ ap (λ (n : ℕ). 2 * n) (length-reverse (vertices w) ∙ length-vertices w) ∙ sym (even-length s)
@@ -133,14 +133,14 @@ module _ {w : List Float} {qs : List PointZ} (s : Shape w) (r : Each PointOn (ve
         subst (Is 21 (areaOf (edges back))) (sym (nonneg-nat (<ℤ→≤ℤ above)) ∙ ap pos (natAbs-neg total ∙ ap natAbs (sym same))) back-area
 
 -- ---- the theorem
-pub made-accepted : {v : List Float} (out : List Float) {n : ℕ} → OutlineOn v → makeOutcome v out .answer ≡ Told n → MadeOn v (take (2 * n) (makeOutcome v out .lent))
+pub made-accepted : {v : List Float} (out : List Float) {n : ℕ} → OutlineOn v → makeOutcome v out .answer ≡ Count n → MadeOn v (take (2 * n) (makeOutcome v out .lent))
 unfolding makeOutcome given madeOf kept atFront turned outlineTested
 made-accepted {v} out {n} g e = go (makeTested v (length out)) refl e
   where
     w : List Float
     w = kept v
 
-    made : (b : Bool) → shapeTested w ≡ Passed → negativeArea w ≡ b → MadeOn v (numbers (cond b (reverse (vertices w)) (vertices w)))
+    made : (b : Bool) → shapeTested w ≡ Passed → negativeArea w ≡ b → MadeOn v (coordinatesOf (cond b (reverse (vertices w)) (vertices w)))
     made true t e =
         let r = vertices-on (take-each (keptCount v) (g .on)) .1 in
         let s = shape w t in
@@ -161,11 +161,11 @@ made-accepted {v} out {n} g e = go (makeTested v (length out)) refl e
     passed t = refusing-passed (shapeTested w) ShortBuffer (ltb (length out) (length v)) (unfold makeTested in t) .0
 
     left : Test → Outcome Answer (List Float)
-    left t = given t (record { answer = Told (count w); lent = atFront (madeOf v) out }) (refusedWith out)
+    left t = given t (record { answer = Count (count w); lent = atFront (madeOf v) out }) (refusedWith out)
 
-    go : (t : Test) → makeTested v (length out) ≡ t → left t .answer ≡ Told n → MadeOn v (take (2 * n) (left t .lent))
+    go : (t : Test) → makeTested v (length out) ≡ t → left t .answer ≡ Count n → MadeOn v (take (2 * n) (left t .lent))
     go (Failed r) t e = absurd (let z : _≡_ {A = ℕ} 0 1 = cc in omega arith)
     go Passed t e =
         let k : count w ≡ n = cc in
         let ps = cond (negativeArea w) (reverse (vertices w)) (vertices w) in
-        rw (take-at (numbers ps) (drop (length (numbers ps)) out) (2 * n) (length-numbers ps ∙ ap (λ (m : ℕ). 2 * m) (length-turned (negativeArea w) ∙ k))) (made (negativeArea w) (passed t) refl)
+        rw (take-at (coordinatesOf ps) (drop (length (coordinatesOf ps)) out) (2 * n) (length-numbers ps ∙ ap (λ (m : ℕ). 2 * m) (length-turned (negativeArea w) ∙ k))) (made (negativeArea w) (passed t) refl)

@@ -21,14 +21,14 @@ use Rattle.number.proofs.ExactLaws.{sub-sized, mul-sized, add-result, div-resul
 use Rattle.number.proofs.Compare.{lt-is, eq-is}
 use Rattle.boundary.specs.declared.Point.{Point}
 use Rattle.boundary.specs.declared.Edge.{Edge}
-use Rattle.geometry.specs.Polygon.{crossesOf, turnOf, onEdge}
+use Rattle.geometry.specs.Polygon.{crossesOf, crossOf, onEdge}
 use Rattle.grid.specs.Grid.{OnGrid}
-use Rattle.grid.specs.Whole.{PointZ, EdgeZ, turnZ, onEdgeZ, crossesZ}
+use Rattle.grid.specs.Whole.{PointZ, EdgeZ, crossZ, onEdgeZ, crossesZ}
 use Rattle.exact.specs.Grid.{PointOn, EdgeOn}
 use Rattle.grid.proofs.Between.{product-nearer}
 use Rattle.exact.proofs.Between.{between-is}
 use Rattle.grid.proofs.Line.{Across, across, on-line}
-use Rattle.exact.proofs.Crossing.{lt-scaled, lt-beside, cleared, at-crossing, rounded-in, crossing-near}
+use Rattle.exact.proofs.Crossing.{lt-scaled, lt-beside, denominator-cleared, at-crossing, rounded-in, crossing-near}
 
 pub difference : {x y : Float} {z w : ℤ} → OnGrid x z → OnGrid y w → Sized 10 (2 ^ 21) (sub binary64 x y) (z -ℤ w)
 difference h g = sub-sized h g (lit≤ tt) (lit≤ tt)
@@ -38,8 +38,8 @@ product h g = mul-sized h g (lit≤ tt) (lit≤ tt)
 
 module _ {e : Edge} {f : EdgeZ} {p : Point} {q : PointZ} (E : EdgeOn e f) (P : PointOn p q) where
   -- ---- on the edge
-  turn-exact : Is 20 (turnOf e p) (turnZ f q)
-  unfolding turnZ
+  turn-exact : Is 20 (crossOf e p) (crossZ f q)
+  unfolding crossZ
   turn-exact = sub-sized (product (difference (E .b .x) (E .a .x)) (difference (P .y) (E .a .y))) (product (difference (E .b .y) (E .a .y)) (difference (P .x) (E .a .x))) (lit≤ tt) (lit≤ tt) .is
 
   pub on-edge-exact : onEdge p e ≡ onEdgeZ q f
@@ -111,7 +111,7 @@ module _ {e : Edge} {f : EdgeZ} {p : Point} {q : PointZ} (E : EdgeOn e f) (P : P
 
     -- a point that is not on the edge is not at the crossing
     off-crossing : (T (onEdgeZ q f) → ⊥) → i *ℤ n +ℤ f .b .x *ℤ pos c ≡ q .x *ℤ pos c → ⊥
-    unfolding turnZ
+    unfolding crossZ
     off-crossing off same = off (on-line f q A (eq-from (f .a .x ∷ f .a .y ∷ f .b .x ∷ f .b .y ∷ q .x ∷ q .y ∷ []) (eq (at-crossing n d (f .b .x) i (pos c) (q .x) d-split i-square same) ∷ []) (search quote depth 30) (omega arith)))
 
     crossing-exact : (T (onEdgeZ q f) → ⊥) → lt (p .x) (add binary64 quotient (e .b .x)) ≡ ltZ ((q .x -ℤ f .b .x) *ℤ (d *ℤ d)) (n *ℤ d)
@@ -119,7 +119,7 @@ module _ {e : Edge} {f : EdgeZ} {p : Point} {q : PointZ} (E : EdgeOn e f) (P : P
         lt-is (rescale 1064 (P .x .is)) (moved .is)
         ∙ sym (lt-scaled (pos c) (q .x *ℤ step) (moved .R) (q .x *ℤ pos c *ℤ step) (moved .R *ℤ pos c) (pos-lt C) (ring (q .x ∷ step ∷ moved .R ∷ pos c ∷ []) (search quote depth 30) tt))
         ∙ lt-beside (i *ℤ n +ℤ f .b .x *ℤ pos c) (q .x *ℤ pos c) step (moved .R *ℤ pos c) (record { lt = tt }) (crossing-near S (pos-lt C) (pos-le (d-is .near)) n-in b-in (divided .rnd) (moved .rnd)) (off-crossing off)
-        ∙ sym (lt-scaled (pos c) (q .x *ℤ pos c) (i *ℤ n +ℤ f .b .x *ℤ pos c) ((q .x -ℤ f .b .x) *ℤ (d *ℤ d)) (n *ℤ d) (pos-lt C) (cleared n d (f .b .x) i (pos c) (q .x) d-split i-square))
+        ∙ sym (lt-scaled (pos c) (q .x *ℤ pos c) (i *ℤ n +ℤ f .b .x *ℤ pos c) ((q .x -ℤ f .b .x) *ℤ (d *ℤ d)) (n *ℤ d) (pos-lt C) (denominator-cleared n d (f .b .x) i (pos c) (q .x) d-split i-square))
 
   pub crosses-exact : (T (onEdgeZ q f) → ⊥) → crossesOf p e ≡ crossesZ q f
   unfolding crossesOf crossesZ

@@ -21,7 +21,7 @@ use Rattle.exact.proofs.Location.{location-exact}
 use Rattle.exact.proofs.Distance.{distance-near}
 use Rattle.lists.proofs.RunLaws.{length-run}
 use Rattle.exact.proofs.WholeEdges.{edges-on}
-use Rattle.accept.proofs.TestLaws.{shape, accepted}
+use Rattle.accept.proofs.TestLaws.{shape, outline-shape-passed}
 use Rattle.exact.proofs.Tests.{grid-in-field}
 
 pub few-edges : (v : List Float) → ltb 4096 (count v) ≡ false → length (edges v) ≤ 4096
@@ -35,7 +35,7 @@ some-edges v h = rw (length-run (edgeAt v) 0 (count v)) (let l = ltb-false (coun
 pub grid-exact : {v : List Float} → OutlineOn v → outlineTested v ≡ Passed → GridExact v
 unfolding areaAnswer queryTested locateAnswer distanceAnswer given _refusing_when_
 grid-exact {v} g e =
-    let s = shape v (accepted v e) in
+    let s = shape v (outline-shape-passed v e) in
     let w = edges-on g in
     record {
       whole = w .0;

@@ -18,9 +18,9 @@ use Rattle.number.proofs.Operations.{equation→is, zero-is}
 use Rattle.number.proofs.OrderLaws.{clamp-is}
 use Rattle.number.proofs.RoundingLaws.{rounded-within, rounded-relative, rounded-nonneg, rounded-nonpos}
 use Rattle.number.proofs.Compare.{is-lt, not-lt}
-use Rattle.grid.proofs.Standing.{Stands, reach}
-use Rattle.grid.specs.Distance.Stand.{before, beside, past}
-use Rattle.grid.specs.Distance.{Stand}
+use Rattle.grid.proofs.Regions.{InRegion, reach}
+use Rattle.grid.specs.Distance.Region.{beforeStart, beside, pastEnd}
+use Rattle.grid.specs.Distance.{Region}
 use Rattle.exact.proofs.Chain as C
 
 -- 1, and 2 ^ -52, in units of 2 ^ -1074
@@ -97,7 +97,7 @@ module _ {t : Float} (dot l2 : ℤ) (L0 : pos 0 ≺ l2) (r : Result t (dot *ℤ 
       (λ k. C.mid-clamped dot E0 L0 (r .R) w (<ℤ→≤ℤ h) (<ℤ→≤ℤ k))
       (λ k l. C.mid-near dot E0 L0 (r .R) w)
 
-  pub clamped : (s : Stand) → Stands dot l2 s → Param (clampOf t zeroᶠ one) l2 (reach s dot l2)
+  pub clamped : (s : Region) → InRegion dot l2 s → Param (clampOf t zeroᶠ one) l2 (reach s dot l2)
   clamped s h = record {
     x = clampZ (r .R);
     is = clamp-is (r .is) (zero-is 1074) one-is;
@@ -106,7 +106,7 @@ module _ {t : Float} (dot l2 : ℤ) (L0 : pos 0 ≺ l2) (r : Result t (dot *ℤ 
     near = go s h;
   }
     where
-      go : (s : Stand) → Stands dot l2 s → Near (reach s dot l2) (clampZ (r .R))
-      go before h = near-before h
+      go : (s : Region) → InRegion dot l2 s → Near (reach s dot l2) (clampZ (r .R))
+      go beforeStart h = near-before h
       go beside h = near-beside (h .0) (h .1)
-      go past h = near-past (h .0) (h .1)
+      go pastEnd h = near-past (h .0) (h .1)

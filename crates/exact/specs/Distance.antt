@@ -15,16 +15,16 @@ use Rattle.grid.specs.Distance.{numZ, denZ}
 abbrev pub step : ℤ
 step = pos (2 ^ 1064)
 
-abbrev pub part : ℤ
-part = pos (2 ^ 1040)
+abbrev pub tolerance : ℤ
+tolerance = pos (2 ^ 1040)
 
 -- √(num / den) steps are at most u units and 2 ^ -24 of a step: num / den ≤ (u + 2 ^ -24) ², multiplied out
 pub record AtMost (u num den : ℤ) : Type 0 where
-  pub holds : num *ℤ (step *ℤ step) ≦ (u +ℤ part) *ℤ (u +ℤ part) *ℤ den
+  pub holds : num *ℤ (step *ℤ step) ≦ (u +ℤ tolerance) *ℤ (u +ℤ tolerance) *ℤ den
 
 -- and at least u units less 2 ^ -24 of a step: (u - 2 ^ -24) ² ≤ num / den, unless u - 2 ^ -24 is below 0
 pub record AtLeast (u num den : ℤ) : Type 0 where
-  pub holds : part ≦ u → (u -ℤ part) *ℤ (u -ℤ part) *ℤ den ≦ num *ℤ (step *ℤ step)
+  pub holds : tolerance ≦ u → (u -ℤ tolerance) *ℤ (u -ℤ tolerance) *ℤ den ≦ num *ℤ (step *ℤ step)
 
 -- the float d is not negative, and within 2 ^ -24 of a step of √(num / den) steps
 pub record Near24 (d : Float) (num den : ℤ) : Type 0 where

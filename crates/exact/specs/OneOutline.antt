@@ -9,7 +9,7 @@ use Rattle.number.specs.Exact.{Is}
 use Rattle.boundary.specs.declared.Point.{Point}
 use Rattle.boundary.specs.declared.Distance.{Distance}
 use Rattle.boundary.specs.Outline.{edges}
-use Rattle.accept.specs.declared.Answer.the-variants.{Told, Measure, Away}
+use Rattle.accept.specs.declared.Answer.the-variants.{Count, Measure, DistanceWith}
 use Rattle.accept.specs.declared.Test.the-variants.{Passed}
 use Rattle.accept.specs.Area.{areaOf}
 use Rattle.geometry.specs.Polygon.{locateOf}
@@ -24,7 +24,7 @@ use Rattle.exact.specs.Distance.{SignedNear}
 -- what the distance query answers of v at p, and that it is near the exact distance of q from the edges fs
 pub record DistanceNear (v : List Float) (p : Point) (fs : List EdgeZ) (q : PointZ) : Type 0 where
   pub signed : Distance
-  pub answer : distanceAnswer v p ≡ Away signed
+  pub answer : distanceAnswer v p ≡ DistanceWith signed
   pub near : SignedNear fs q (signed .d)
 
 -- The outline v. `whole` are its edges, in steps. The area is half their shoelace sum: a square step is 2 ^ -20 square µm, half of one 2 ^ -21.
@@ -35,7 +35,7 @@ pub record GridExact (v : List Float) : Type 0 where
   pub area : Is 21 (areaOf (edges v)) (shoelaceZ whole)
   pub area-answer : areaAnswer v ≡ Measure (areaOf (edges v))
   pub location : {p : Point} {q : PointZ} → PointOn p q → locateOf (edges v) p ≡ locationZ whole q
-  pub location-answer : {p : Point} {q : PointZ} → PointOn p q → locateAnswer v p ≡ Told (locationZ whole q)
+  pub location-answer : {p : Point} {q : PointZ} → PointOn p q → locateAnswer v p ≡ Count (locationZ whole q)
   pub distance : {p : Point} {q : PointZ} → PointOn p q → DistanceNear v p whole q
 
 -- The outline w that is made of v: it is on the grid and passes tests 1 to 9, and its area is the magnitude of that before it was reversed

@@ -7,13 +7,13 @@ use lib.IntN.{pos, negsuc}
 use lib.Ieee.{Float, fin, binary64, ofInt, neg, add, sub, mul, div, lt, le, eq, ne, isNan}
 use Rattle.number.specs.Root.{sqrtOf}
 use Rattle.number.specs.Hypot.{hypotOf}
-use Rattle.signs.specs.Signs.{signBit, withSign, absOf, copysignOf, before, maxOf, clampOf}
+use Rattle.signs.specs.Signs.{signBit, withSign, absOf, copysignOf, standsBefore, maxOf, clampOf}
 use Rattle.boundary.specs.declared.Point.{Point}
 use Rattle.boundary.specs.declared.Bounds.{Bounds}
 use Rattle.boundary.specs.declared.Near.{Near}
 use Rattle.boundary.specs.declared.Distance.{Distance}
 use Rattle.boundary.specs.Boxes.{pointInField, boxFits, hull, scaleOf, widenedOf, gapAlong, gapOf}
-use Rattle.lists.specs.Lists.{run, fold, any, oddly, total, atFront, zeros}
+use Rattle.lists.specs.Lists.{run, fold, any, oddMany, total, atFront, zeros}
 use Rattle.boundary.specs.Outline.{vertices, edges}
 use Rattle.boundary.specs.Length.{edgeLength, lengthOf}
 use Rattle.boundary.specs.Line.{paramOf, alongOf, footOf, normalOf, lineNear}
@@ -21,23 +21,23 @@ use Rattle.pieces.specs.Piece.{pieceNear}
 use Rattle.distance.specs.Nearest.{nearestOf, roundingOf, signedOf}
 use Rattle.pieces.specs.Ellipse.{quadrantNearest, onAxis, longNearest, ellipseNearest, ellipseFoot, ellipseNear}
 use Rattle.accept.specs.declared.Answer.{Answer}
-use Rattle.accept.specs.declared.Answer.the-variants.{Refused, Told, Measure, Away}
+use Rattle.accept.specs.declared.Answer.the-variants.{Refused, Count, Measure, DistanceWith}
 use Rattle.accept.specs.declared.Refusal.the-variants.{ZeroArea, BadPoint, ShortBuffer}
 use Rattle.accept.specs.declared.Test.{Test}
 use Rattle.accept.specs.declared.Test.the-variants.{Passed}
-use Rattle.accept.specs.Answers.{away}
+use Rattle.accept.specs.Answers.{distanceOf}
 use Rattle.geometry.specs.Answers.{queryTested, areaAnswer, perimeterAnswer, containsAnswer, locateAnswer, distanceAnswer}
 use Rattle.accept.specs.Area.{areaOf}
 use Rattle.geometry.specs.Polygon.{containsOf, crossesOf, locateOf, onEdge}
 use Rattle.accept.specs.Refusals.{_refusing_when_, given, countTested, valuesTested, shapeTested, outlineTested}
-use Rattle.geometry.specs.Making.{closed, keptCount, kept, makeTested, numbers, madeOf, makeOutcome}
-use Rattle.oval.specs.Ellipse.{offsetFits, ellipseFits, ellipseTested, ellipseAnswer}
-use Rattle.clip.specs.Clip.{inside, crosses, partOf, partsOf, parts, lead, lastKept, turned, keptLines, joint, onward, joined, clipOf}
+use Rattle.geometry.specs.Making.{closed, keptCount, kept, makeTested, coordinatesOf, madeOf, makeOutcome}
+use Rattle.ellipse.specs.Ellipse.{offsetFits, ellipseFits, ellipseTested, ellipseAnswer}
+use Rattle.clip.specs.Clip.{inHalfPlane, crosses, partOf, partsOf, parts, lead, lastKept, rotated, keptLines, joint, onward, joined, clipOf}
 use Rattle.fill.specs.Fill.{xdyOf, fillOf, longOf}
 use Rattle.fill.specs.Answers.{fillTested, filled, fillOutcome}
 use Rattle.sorts.specs.Sort.{insert, sort}
-use Rattle.entries.specs.Entries.{boxAt, wideAt}
-use Rattle.splits.specs.Tree.{hullOf, treeOn, indexOf}
+use Rattle.boxes.specs.BoxLists.{boxAt, wideAt}
+use Rattle.tree.specs.Tree.{hullOf, treeOn, indexOf}
 use Rattle.meeting.specs.Meeting.{apart, meetingOf}
 use Rattle.index.specs.Buffer.{IndexBuffer, buffer, shortBuffer}
 use Rattle.set.specs.Set.{Outline, startOf, outlineAt, outlinesOf}
@@ -55,11 +55,11 @@ abbrev pub um : ℕ → Float
 unfolding ofInt
 um n = ofInt binary64 (pos n)
 
-abbrev pub list : List ℕ → List Float
-list ns = map um ns
+abbrev pub microns : List ℕ → List Float
+microns ns = map um ns
 
-abbrev pub at : ℕ → ℕ → Point
-at x y = record { x = um x; y = um y }
+abbrev pub microPoint : ℕ → ℕ → Point
+microPoint x y = record { x = um x; y = um y }
 
 -- the double nearest to n / 10
 abbrev pub tenths : ℕ → Float
@@ -68,23 +68,23 @@ tenths n = div binary64 (um n) (um 10)
 
 -- the square of the examples
 abbrev pub S : List Float
-S = list (0 ∷ 0 ∷ 4 ∷ 0 ∷ 4 ∷ 4 ∷ 0 ∷ 4 ∷ [])
+S = microns (0 ∷ 0 ∷ 4 ∷ 0 ∷ 4 ∷ 4 ∷ 0 ∷ 4 ∷ [])
 
 -- S listed the other way round
 abbrev pub S-back : List Float
-S-back = list (0 ∷ 0 ∷ 0 ∷ 4 ∷ 4 ∷ 4 ∷ 4 ∷ 0 ∷ [])
+S-back = microns (0 ∷ 0 ∷ 0 ∷ 4 ∷ 4 ∷ 4 ∷ 4 ∷ 0 ∷ [])
 
 -- the nearest point of the ellipse a = 2, b = 1, centre (0, 0)
 abbrev pub on-ellipse : Point → Answer
-on-ellipse p = ellipseAnswer (at 0 0) (um 2) (um 1) p
+on-ellipse p = ellipseAnswer (microPoint 0 0) (um 2) (um 1) p
 
 -- the boxes of the examples
 abbrev pub boxes : List Float
-boxes = list (0 ∷ 0 ∷ 1 ∷ 1 ∷ 10 ∷ 10 ∷ 11 ∷ 11 ∷ [])
+boxes = microns (0 ∷ 0 ∷ 1 ∷ 1 ∷ 10 ∷ 10 ∷ 11 ∷ 11 ∷ [])
 
 -- min x, min y, max x, max y
 abbrev pub cell : ℕ → ℕ → ℕ → ℕ → Bounds
-cell x y z t = record { min = at x y; max = at z t }
+cell x y z t = record { min = microPoint x y; max = microPoint z t }
 
 -- the fill, with a buffer of 64 numbers
 abbrev pub filled-by : List Float → Bounds → Answer
@@ -92,10 +92,10 @@ filled-by v c = fillOutcome v c (zeros (um 0) 64) .answer
 
 -- S moved 10 right, and the set of both
 abbrev pub S-right : List Float
-S-right = list (10 ∷ 0 ∷ 14 ∷ 0 ∷ 14 ∷ 4 ∷ 10 ∷ 4 ∷ [])
+S-right = microns (10 ∷ 0 ∷ 14 ∷ 0 ∷ 14 ∷ 4 ∷ 10 ∷ 4 ∷ [])
 
 abbrev pub both : List Float
-both = list (0 ∷ 0 ∷ 4 ∷ 0 ∷ 4 ∷ 4 ∷ 0 ∷ 4 ∷ 10 ∷ 0 ∷ 14 ∷ 0 ∷ 14 ∷ 4 ∷ 10 ∷ 4 ∷ [])
+both = microns (0 ∷ 0 ∷ 4 ∷ 0 ∷ 4 ∷ 4 ∷ 0 ∷ 4 ∷ 10 ∷ 0 ∷ 14 ∷ 0 ∷ 14 ∷ 4 ∷ 10 ∷ 4 ∷ [])
 
 abbrev pub fours : List ℕ
 fours = 4 ∷ 4 ∷ []
@@ -126,52 +126,52 @@ g ⊢ s = record { gives = g; said = s }
 -- the normal of (1,2) has y = -0: inside, both coordinates are negated
 unfoldable pub starred : List Example
 starred =
-    (finds (nearest-of both fours (at 7 2)) ⊢ finds (At (record { outline = 0; distance = um 3 })))
-    ∷ (answers (distanceAnswer S (at 6 2)) ⊢ answers (Away (away (um 2) (um 1) (um 0))))
-    ∷ (answers (distanceAnswer S (at 1 2)) ⊢ answers (Away (away (neg (um 1)) (neg (um 1)) (neg (um 0)))))
-    ∷ (answers (distanceAnswer S (at 7 8)) ⊢ answers (Away (away (um 5) (tenths 6) (tenths 8))))
+    (finds (nearest-of both fours (microPoint 7 2)) ⊢ finds (At (record { outline = 0; distance = um 3 })))
+    ∷ (answers (distanceAnswer S (microPoint 6 2)) ⊢ answers (DistanceWith (distanceOf (um 2) (um 1) (um 0))))
+    ∷ (answers (distanceAnswer S (microPoint 1 2)) ⊢ answers (DistanceWith (distanceOf (neg (um 1)) (neg (um 1)) (neg (um 0)))))
+    ∷ (answers (distanceAnswer S (microPoint 7 8)) ⊢ answers (DistanceWith (distanceOf (um 5) (tenths 6) (tenths 8))))
     ∷ (answers (areaAnswer S) ⊢ answers (Measure (um 16)))
     ∷ (answers (perimeterAnswer S) ⊢ answers (Measure (um 16)))
-    ∷ (leaves (makeOutcome S-back S-back .lent) ⊢ leaves (list (4 ∷ 0 ∷ 4 ∷ 4 ∷ 0 ∷ 4 ∷ 0 ∷ 0 ∷ [])))
-    ∷ (answers (locateAnswer S (at 4 2)) ⊢ answers (Told 1))
-    ∷ (answers (containsAnswer S (at 4 2)) ⊢ answers (Told 0))
-    ∷ (answers (locateAnswer S (at 0 2)) ⊢ answers (Told 1))
-    ∷ (answers (containsAnswer S (at 0 2)) ⊢ answers (Told 1))
-    ∷ (answers (containsAnswer S (at 2 0)) ⊢ answers (Told 1))
-    ∷ (answers (containsAnswer S (at 2 4)) ⊢ answers (Told 0))
+    ∷ (leaves (makeOutcome S-back S-back .lent) ⊢ leaves (microns (4 ∷ 0 ∷ 4 ∷ 4 ∷ 0 ∷ 4 ∷ 0 ∷ 0 ∷ [])))
+    ∷ (answers (locateAnswer S (microPoint 4 2)) ⊢ answers (Count 1))
+    ∷ (answers (containsAnswer S (microPoint 4 2)) ⊢ answers (Count 0))
+    ∷ (answers (locateAnswer S (microPoint 0 2)) ⊢ answers (Count 1))
+    ∷ (answers (containsAnswer S (microPoint 0 2)) ⊢ answers (Count 1))
+    ∷ (answers (containsAnswer S (microPoint 2 0)) ⊢ answers (Count 1))
+    ∷ (answers (containsAnswer S (microPoint 2 4)) ⊢ answers (Count 0))
     ∷ (answers (filled-by S (cell 1 1 3 6)) ⊢ answers (Measure (um 6)))
     ∷ (answers (filled-by S (cell 5 5 6 6)) ⊢ answers (Measure (um 0)))
-    ∷ (answers (areaAnswer (list (0 ∷ 0 ∷ 1 ∷ 0 ∷ 2 ∷ 0 ∷ []))) ⊢ answers (Refused ZeroArea))
-    ∷ (answers (areaAnswer (list (0 ∷ 0 ∷ 2 ∷ 2 ∷ 2 ∷ 0 ∷ 0 ∷ 2 ∷ []))) ⊢ answers (Refused ZeroArea))
-    ∷ (answers (on-ellipse (record { x = um 0; y = neg (um 0) })) ⊢ answers (Away (away (um 1) (um 0) (neg (um 1)))))
-    ∷ (answers (on-ellipse (at 3 0)) ⊢ answers (Away (away (um 1) (um 2) (um 0))))
+    ∷ (answers (areaAnswer (microns (0 ∷ 0 ∷ 1 ∷ 0 ∷ 2 ∷ 0 ∷ []))) ⊢ answers (Refused ZeroArea))
+    ∷ (answers (areaAnswer (microns (0 ∷ 0 ∷ 2 ∷ 2 ∷ 2 ∷ 0 ∷ 0 ∷ 2 ∷ []))) ⊢ answers (Refused ZeroArea))
+    ∷ (answers (on-ellipse (record { x = um 0; y = neg (um 0) })) ⊢ answers (DistanceWith (distanceOf (um 1) (um 0) (neg (um 1)))))
+    ∷ (answers (on-ellipse (microPoint 3 0)) ⊢ answers (DistanceWith (distanceOf (um 1) (um 2) (um 0))))
     ∷ (lists (meetingOf (cell 5 5 6 6) (indexOf boxes)) ⊢ lists (0 ∷ 1 ∷ []))
     ∷ (lists (meetingOf (cell 20 20 21 21) (indexOf boxes)) ⊢ lists [])
     ∷ []
 
 -- ---- the distances by steps, since a magnitude that is not yet worked out is worked out at every use: the nearest point first
-nearest-6 : nearestOf (edges S) (at 6 2) ≡ record { d = um 2; q = at 4 2; n = record { x = um 1; y = neg (um 0) } }
+nearest-6 : nearestOf (edges S) (microPoint 6 2) ≡ record { d = um 2; q = microPoint 4 2; n = record { x = um 1; y = neg (um 0) } }
 unfolding nearestOf pieceNear lineNear footOf paramOf alongOf normalOf hypotOf sqrtOf clampOf edges run fold add sub mul div neg lt eq ofInt
 nearest-6 = refl
 
-nearest-1 : nearestOf (edges S) (at 1 2) ≡ record { d = um 1; q = at 0 2; n = record { x = neg (um 1); y = neg (um 0) } }
+nearest-1 : nearestOf (edges S) (microPoint 1 2) ≡ record { d = um 1; q = microPoint 0 2; n = record { x = neg (um 1); y = neg (um 0) } }
 unfolding nearestOf pieceNear lineNear footOf paramOf alongOf normalOf hypotOf sqrtOf clampOf edges run fold add sub mul div neg lt eq ofInt
 nearest-1 = refl
 
-nearest-7 : nearestOf (edges S) (at 7 8) ≡ record { d = um 5; q = at 4 4; n = record { x = um 1; y = neg (um 0) } }
+nearest-7 : nearestOf (edges S) (microPoint 7 8) ≡ record { d = um 5; q = microPoint 4 4; n = record { x = um 1; y = neg (um 0) } }
 unfolding nearestOf pieceNear lineNear footOf paramOf alongOf normalOf hypotOf sqrtOf clampOf edges run fold add sub mul div neg lt eq ofInt
 nearest-7 = refl
 
 -- and then its sign
-signed-at : (p : Point) (inside : Bool) (c : Near) (d : Distance) → nearestOf (edges S) p ≡ c → signedOf c p inside ≡ d → Away (signedOf (nearestOf (edges S) p) p inside) ≡ Away d
-signed-at p inside c d e f = rw (e, f)
+signed-at : (p : Point) (inHalfPlane : Bool) (c : Near) (d : Distance) → nearestOf (edges S) p ≡ c → signedOf c p inHalfPlane ≡ d → DistanceWith (signedOf (nearestOf (edges S) p) p inHalfPlane) ≡ DistanceWith d
+signed-at p inHalfPlane c d e f = rw (e, f)
 
-signed-6 : signedOf (record { d = um 2; q = at 4 2; n = record { x = um 1; y = neg (um 0) } }) (at 6 2) false ≡ away (um 2) (um 1) (um 0)
-unfolding signedOf roundingOf absOf withSign maxOf before signBit isNan sub mul div neg lt eq ofInt
+signed-6 : signedOf (record { d = um 2; q = microPoint 4 2; n = record { x = um 1; y = neg (um 0) } }) (microPoint 6 2) false ≡ distanceOf (um 2) (um 1) (um 0)
+unfolding signedOf roundingOf absOf withSign maxOf standsBefore signBit isNan sub mul div neg lt eq ofInt
 signed-6 = refl
 
-signed-1 : signedOf (record { d = um 1; q = at 0 2; n = record { x = neg (um 1); y = neg (um 0) } }) (at 1 2) true ≡ away (neg (um 1)) (neg (um 1)) (neg (um 0))
-unfolding signedOf roundingOf absOf withSign maxOf before signBit isNan sub mul div neg lt eq ofInt
+signed-1 : signedOf (record { d = um 1; q = microPoint 0 2; n = record { x = neg (um 1); y = neg (um 0) } }) (microPoint 1 2) true ≡ distanceOf (neg (um 1)) (neg (um 1)) (neg (um 0))
+unfolding signedOf roundingOf absOf withSign maxOf standsBefore signBit isNan sub mul div neg lt eq ofInt
 signed-1 = refl
 
 six-tenths : tenths 6 ≡ fin false 5404319552844595 (negsuc 52)
@@ -182,44 +182,44 @@ eight-tenths : tenths 8 ≡ fin false 3602879701896397 (negsuc 51)
 unfolding div ofInt
 eight-tenths = refl
 
-signed-7 : signedOf (record { d = um 5; q = at 4 4; n = record { x = um 1; y = neg (um 0) } }) (at 7 8) false ≡ away (um 5) (fin false 5404319552844595 (negsuc 52)) (fin false 3602879701896397 (negsuc 51))
-unfolding signedOf roundingOf absOf withSign maxOf before signBit isNan sub mul div neg lt eq ofInt
+signed-7 : signedOf (record { d = um 5; q = microPoint 4 4; n = record { x = um 1; y = neg (um 0) } }) (microPoint 7 8) false ≡ distanceOf (um 5) (fin false 5404319552844595 (negsuc 52)) (fin false 3602879701896397 (negsuc 51))
+unfolding signedOf roundingOf absOf withSign maxOf standsBefore signBit isNan sub mul div neg lt eq ofInt
 signed-7 = refl
 
-in-tenths : Away (away (um 5) (fin false 5404319552844595 (negsuc 52)) (fin false 3602879701896397 (negsuc 51))) ≡ Away (away (um 5) (tenths 6) (tenths 8))
+in-tenths : DistanceWith (distanceOf (um 5) (fin false 5404319552844595 (negsuc 52)) (fin false 3602879701896397 (negsuc 51))) ≡ DistanceWith (distanceOf (um 5) (tenths 6) (tenths 8))
 in-tenths = rw (six-tenths, eight-tenths)
 
-distance-6 : distanceAnswer S (at 6 2) ≡ Away (away (um 2) (um 1) (um 0))
-unfolding distanceAnswer queryTested given _refusing_when_ outlineTested shapeTested countTested valuesTested areaOf containsOf crossesOf oddly any fold run edges add sub mul div neg lt le eq ofInt
-distance-6 = signed-at (at 6 2) false _ _ nearest-6 signed-6
+distance-6 : distanceAnswer S (microPoint 6 2) ≡ DistanceWith (distanceOf (um 2) (um 1) (um 0))
+unfolding distanceAnswer queryTested given _refusing_when_ outlineTested shapeTested countTested valuesTested areaOf containsOf crossesOf oddMany any fold run edges add sub mul div neg lt le eq ofInt
+distance-6 = signed-at (microPoint 6 2) false _ _ nearest-6 signed-6
 
-distance-1 : distanceAnswer S (at 1 2) ≡ Away (away (neg (um 1)) (neg (um 1)) (neg (um 0)))
-unfolding distanceAnswer queryTested given _refusing_when_ outlineTested shapeTested countTested valuesTested areaOf containsOf crossesOf oddly any fold run edges add sub mul div neg lt le eq ofInt
-distance-1 = signed-at (at 1 2) true _ _ nearest-1 signed-1
+distance-1 : distanceAnswer S (microPoint 1 2) ≡ DistanceWith (distanceOf (neg (um 1)) (neg (um 1)) (neg (um 0)))
+unfolding distanceAnswer queryTested given _refusing_when_ outlineTested shapeTested countTested valuesTested areaOf containsOf crossesOf oddMany any fold run edges add sub mul div neg lt le eq ofInt
+distance-1 = signed-at (microPoint 1 2) true _ _ nearest-1 signed-1
 
-distance-7 : distanceAnswer S (at 7 8) ≡ Away (away (um 5) (tenths 6) (tenths 8))
-unfolding distanceAnswer queryTested given _refusing_when_ outlineTested shapeTested countTested valuesTested areaOf containsOf crossesOf oddly any fold run edges add sub mul div neg lt le eq ofInt
-distance-7 = signed-at (at 7 8) false _ _ nearest-7 signed-7 ∙ in-tenths
+distance-7 : distanceAnswer S (microPoint 7 8) ≡ DistanceWith (distanceOf (um 5) (tenths 6) (tenths 8))
+unfolding distanceAnswer queryTested given _refusing_when_ outlineTested shapeTested countTested valuesTested areaOf containsOf crossesOf oddMany any fold run edges add sub mul div neg lt le eq ofInt
+distance-7 = signed-at (microPoint 7 8) false _ _ nearest-7 signed-7 ∙ in-tenths
 
 -- the nearest of two outlines: the magnitude of each first
-nearest-left : nearestOf (edges S) (at 7 2) ≡ record { d = um 3; q = at 4 2; n = record { x = um 1; y = neg (um 0) } }
+nearest-left : nearestOf (edges S) (microPoint 7 2) ≡ record { d = um 3; q = microPoint 4 2; n = record { x = um 1; y = neg (um 0) } }
 unfolding nearestOf pieceNear lineNear footOf paramOf alongOf normalOf hypotOf sqrtOf clampOf edges run fold add sub mul div neg lt eq ofInt
 nearest-left = refl
 
-nearest-right : nearestOf (edges S-right) (at 7 2) ≡ record { d = um 3; q = at 10 2; n = record { x = neg (um 1); y = neg (um 0) } }
+nearest-right : nearestOf (edges S-right) (microPoint 7 2) ≡ record { d = um 3; q = microPoint 10 2; n = record { x = neg (um 1); y = neg (um 0) } }
 unfolding nearestOf pieceNear lineNear footOf paramOf alongOf normalOf hypotOf sqrtOf clampOf edges run fold add sub mul div neg lt eq ofInt
 nearest-right = refl
 
-magnitude-of : (o : List Float) (c : Near) → nearestOf (edges o) (at 7 2) ≡ c → absOf (signedOf c (at 7 2) (containsOf (edges o) (at 7 2)) .d) ≡ um 3 → magnitudeOf o (at 7 2) ≡ um 3
+magnitude-of : (o : List Float) (c : Near) → nearestOf (edges o) (microPoint 7 2) ≡ c → absOf (signedOf c (microPoint 7 2) (containsOf (edges o) (microPoint 7 2)) .d) ≡ um 3 → magnitudeOf o (microPoint 7 2) ≡ um 3
 unfolding magnitudeOf
 magnitude-of o c e f = rw e f
 
-magnitude-left : magnitudeOf S (at 7 2) ≡ um 3
-unfolding containsOf crossesOf oddly fold run edges signedOf roundingOf absOf withSign maxOf before signBit isNan add sub mul div neg lt eq ofInt
+magnitude-left : magnitudeOf S (microPoint 7 2) ≡ um 3
+unfolding containsOf crossesOf oddMany fold run edges signedOf roundingOf absOf withSign maxOf standsBefore signBit isNan add sub mul div neg lt eq ofInt
 magnitude-left = magnitude-of S _ nearest-left refl
 
-magnitude-right : magnitudeOf S-right (at 7 2) ≡ um 3
-unfolding containsOf crossesOf oddly fold run edges signedOf roundingOf absOf withSign maxOf before signBit isNan add sub mul div neg lt eq ofInt
+magnitude-right : magnitudeOf S-right (microPoint 7 2) ≡ um 3
+unfolding containsOf crossesOf oddMany fold run edges signedOf roundingOf absOf withSign maxOf standsBefore signBit isNan add sub mul div neg lt eq ofInt
 magnitude-right = magnitude-of S-right _ nearest-right refl
 
 outlines-of-both : outlinesOf both fours ≡ S ∷ S-right ∷ []
@@ -230,33 +230,33 @@ least-of-two : (D : ℕ → Float) → D 0 ≡ um 3 → D 1 ≡ um 3 → leastOf
 unfolding leastOf fold run lt ofInt
 least-of-two D e f = rw (e, f)
 
-nearest-both : nearestIn (S ∷ S-right ∷ []) (at 7 2) ≡ At (record { outline = 0; distance = um 3 })
+nearest-both : nearestIn (S ∷ S-right ∷ []) (microPoint 7 2) ≡ At (record { outline = 0; distance = um 3 })
 unfolding nearestIn
-nearest-both = ap At (least-of-two (magnitudeAt (S ∷ S-right ∷ []) (at 7 2)) magnitude-left magnitude-right)
+nearest-both = ap At (least-of-two (magnitudeAt (S ∷ S-right ∷ []) (microPoint 7 2)) magnitude-left magnitude-right)
 
 both-passes : setTested both fours ≡ Passed
 unfolding setTested listsTested outlinesTested _refusing_when_ outlinesOf outlineAt startOf any fold run edges areaOf total add sub mul div neg lt le eq ofInt
 both-passes = refl
 
-query-passes : setQueryTested both fours (at 7 2) room ≡ Passed
+query-passes : setQueryTested both fours (microPoint 7 2) room ≡ Passed
 unfolding setQueryTested _refusing_when_ neg le lt eq ofInt
-query-passes = ap (λ (t : Test). t refusing BadPoint when not (pointInField (at 7 2)) refusing ShortBuffer when shortBuffer room) both-passes
+query-passes = ap (λ (t : Test). t refusing BadPoint when not (pointInField (microPoint 7 2)) refusing ShortBuffer when shortBuffer room) both-passes
 
-found-both : nearest-of both fours (at 7 2) ≡ At (record { outline = 0; distance = um 3 })
+found-both : nearest-of both fours (microPoint 7 2) ≡ At (record { outline = 0; distance = um 3 })
 unfolding nearestOutcome queryOutcome given
 found-both =
-    ap (λ (t : Test). given t (worked (nearestIn (outlinesOf both fours) (at 7 2)) room) (λ r. record { answer = nearest.Refused r; lent = room }) .answer) query-passes
-    ∙ ap (λ (os : List Outline). nearestIn os (at 7 2)) outlines-of-both ∙ nearest-both
+    ap (λ (t : Test). given t (worked (nearestIn (outlinesOf both fours) (microPoint 7 2)) room) (λ r. record { answer = nearest.Refused r; lent = room }) .answer) query-passes
+    ∙ ap (λ (os : List Outline). nearestIn os (microPoint 7 2)) outlines-of-both ∙ nearest-both
 
 also : {g s : Given} {gs ss : List Given} → g ≡ s → gs ≡ ss → (g ∷ gs) ≡ (s ∷ ss)
 also e es = rw (e, es)
 
 -- every example holds
 pub starred-hold : map (λ (e : Example). e .gives) starred ≡ map (λ (e : Example). e .said) starred
-unfolding starred areaAnswer perimeterAnswer containsAnswer locateAnswer queryTested given _refusing_when_ outlineTested shapeTested countTested valuesTested makeOutcome makeTested madeOf numbers Rattle.geometry.specs.Making.turned kept keptCount closed atFront areaOf containsOf crossesOf locateOf onEdge lengthOf edgeLength ellipseAnswer ellipseTested ellipseFits offsetFits pieceNear ellipseNear ellipseFoot ellipseNearest longNearest quadrantNearest onAxis copysignOf absOf withSign signBit maxOf before hypotOf sqrtOf total any oddly fold run edges vertices add sub mul div neg lt le eq ofInt fillOutcome fillTested boxFits filled longOf fillOf xdyOf clipOf joined onward joint keptLines turned lastKept lead parts partsOf partOf crosses inside Rattle.clip.specs.Clip.at alongOf flatMap ne meetingOf apart indexOf treeOn hullOf hull wideAt boxAt widenedOf scaleOf sort insert isNan
+unfolding starred areaAnswer perimeterAnswer containsAnswer locateAnswer queryTested given _refusing_when_ outlineTested shapeTested countTested valuesTested makeOutcome makeTested madeOf coordinatesOf Rattle.geometry.specs.Making.turned kept keptCount closed atFront areaOf containsOf crossesOf locateOf onEdge lengthOf edgeLength ellipseAnswer ellipseTested ellipseFits offsetFits pieceNear ellipseNear ellipseFoot ellipseNearest longNearest quadrantNearest onAxis copysignOf absOf withSign signBit maxOf standsBefore hypotOf sqrtOf total any oddMany fold run edges vertices add sub mul div neg lt le eq ofInt fillOutcome fillTested boxFits filled longOf fillOf xdyOf clipOf joined onward joint keptLines rotated lastKept lead parts partsOf partOf crosses inHalfPlane Rattle.clip.specs.Clip.pointAlong alongOf flatMap ne meetingOf apart indexOf treeOn hullOf hull wideAt boxAt widenedOf scaleOf sort insert isNan
 starred-hold = also (ap finds found-both) (also (ap answers distance-6) (also (ap answers distance-1) (also (ap answers distance-7) refl)))
 
 -- not starred: the gap of the box from (0, 0) to (1, 1) at (4, 5) is 5
-example-gap : gapOf (record { min = at 0 0; max = at 1 1 }) (at 4 5) ≡ um 5
-unfolding gapOf gapAlong maxOf before signBit isNan hypotOf sqrtOf add sub mul lt eq ofInt
+example-gap : gapOf (record { min = microPoint 0 0; max = microPoint 1 1 }) (microPoint 4 5) ≡ um 5
+unfolding gapOf gapAlong maxOf standsBefore signBit isNan hypotOf sqrtOf add sub mul lt eq ofInt
 example-gap = refl

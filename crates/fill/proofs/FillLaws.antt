@@ -8,8 +8,8 @@ use Rattle.boundary.specs.declared.Edge.{Edge}
 use Rattle.clip.specs.Lent.{Holds, Stage}
 
 -- a list that fits, where there is more room
-pub widened : {to room wide : ℕ} {w : List Float} {n : ℕ} {es : List Edge} → Holds to room w n es → n ≤ room → Holds to wide w n es
-widened h l = record { count = h .count; list = λ k. h .list l }
+pub more-room : {to room wide : ℕ} {w : List Float} {n : ℕ} {es : List Edge} → Holds to room w n es → n ≤ room → Holds to wide w n es
+more-room h l = record { count = h .count; list = λ k. h .list l }
 
 -- the list that goes into the first clip
 pub begins : {half : ℕ} {w : List Float} {n : ℕ} {es : List Edge} → Holds 0 half w n es → n ≤ half → Stage half w (record { second = false; n = n }) false es

@@ -7,22 +7,22 @@ use lib.ListN.{length}
 use lib.Ieee.{Float, binary64, add, sub, mul, div}
 use Rattle.boundary.specs.declared.Edge.{Edge}
 use Rattle.lists.specs.Lists.{total}
-use Rattle.clip.specs.declared.Side.{Side}
+use Rattle.clip.specs.declared.HalfPlane.{HalfPlane}
 use Rattle.clip.specs.Clip.{clipOf}
 use Rattle.boundary.specs.declared.Bounds.{Bounds}
 use Rattle.accept.specs.Area.{two}
 
 -- ---- the four clipped lists
-abbrev pub lowX : Bounds → Side
+abbrev pub lowX : Bounds → HalfPlane
 lowX c = record { y = false; above = true; v = c .min .x }
 
-abbrev pub highX : Bounds → Side
+abbrev pub highX : Bounds → HalfPlane
 highX c = record { y = false; above = false; v = c .max .x }
 
-abbrev pub lowY : Bounds → Side
+abbrev pub lowY : Bounds → HalfPlane
 lowY c = record { y = true; above = true; v = c .min .y }
 
-abbrev pub highY : Bounds → Side
+abbrev pub highY : Bounds → HalfPlane
 highY c = record { y = true; above = false; v = c .max .y }
 
 abbrev pub clip1 : List Edge → Bounds → List Edge

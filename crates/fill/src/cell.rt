@@ -16,7 +16,7 @@ use accept::Answer;
 use accept::Refusal;
 use boundary::Bounds;
 use boundary::Edge;
-use clip::Side;
+use clip::HalfPlane;
 use clip::Stored;
 
 // Writes the outline's edges to the front of w.
@@ -38,25 +38,25 @@ fn four(w: &mut [f64], half: usize, n: usize, c: Bounds) -> Stored
     ensures { λ r. ⌜ (length (now (w .exit)) ≡ length (now (w .entry))) × (drop (8 * half) (now (w .exit)) ≡ drop (8 * half) (now (w .entry)))
         × ((es : List Edge) → Holds 0 half (now (w .entry)) n es → Stage half (now (w .exit)) r (longOf half es c) (clip4 es c)) ⌝ }
 {
-    let low_x = Side {
+    let low_x = HalfPlane {
         y: false,
         above: true,
         v: c.min.x,
     };
     let a = clip::halves::clip(w, half, Stored { second: false, n }, low_x);
-    let high_x = Side {
+    let high_x = HalfPlane {
         y: false,
         above: false,
         v: c.max.x,
     };
     let b = clip::halves::clip(w, half, a, high_x);
-    let low_y = Side {
+    let low_y = HalfPlane {
         y: true,
         above: true,
         v: c.min.y,
     };
     let d = clip::halves::clip(w, half, b, low_y);
-    let high_y = Side {
+    let high_y = HalfPlane {
         y: true,
         above: false,
         v: c.max.y,

@@ -9,11 +9,11 @@ use borrow.Author.Tests.{eq-eqb, ne-eqb}
 use lib.Ieee.{Float, unlike}
 use Rattle.boundary.specs.declared.Point.{Point}
 use Rattle.boundary.specs.declared.Edge.{Edge}
-use Rattle.lists.specs.Lists.{run, fold, oddly}
+use Rattle.lists.specs.Lists.{run, fold, oddMany}
 use Rattle.boundary.specs.Outline.{count, after, vertexAt, edges}
 use Rattle.lists.proofs.RunLaws.{run-last, run-later}
 use Rattle.lists.proofs.FoldLaws.{fold-last}
-use Rattle.geometry.specs.Polygon.{crossesOf, containsOf, before, containsRust}
+use Rattle.geometry.specs.Polygon.{crossesOf, containsOf, previous, containsRust}
 
 unlike-free : (a b c : Bool) → unlike (unlike a b) c ≡ unlike (unlike a c) b
 unlike-free true true true = refl
@@ -28,7 +28,7 @@ unlike-free false false false = refl
 -- over n points
 module _ (g : ℕ → Point) where
   abbrev into : ℕ → ℕ → Edge
-  into n i = record { a = g (before n i); b = g i }
+  into n i = record { a = g (previous n i); b = g i }
 
   abbrev out : ℕ → ℕ → Edge
   out n i = record { a = g i; b = g (after n i) }
@@ -46,8 +46,8 @@ module _ (g : ℕ → Point) where
   unfolding run
   run-into k = rw (first k, run-later (into (suc k)) (out (suc k)) 0 k (λ j l. later k j (omega arith)))
 
-  oddly-into : (q : Edge → Bool) (n : ℕ) → oddly q (run (out n) 0 n) ≡ oddly q (run (into n) 0 n)
-  unfolding oddly fold run
+  oddly-into : (q : Edge → Bool) (n : ℕ) → oddMany q (run (out n) 0 n) ≡ oddMany q (run (into n) 0 n)
+  unfolding oddMany fold run
   oddly-into q zero = refl
   oddly-into q (suc k) =
       let f : Bool → Edge → Bool = λ b e. unlike b (q e) in

@@ -8,7 +8,7 @@ use Rattle.boundary.specs.Outline.{vertices, edges}
 use Rattle.boundary.specs.Length.{lengthOf}
 use Rattle.distance.specs.Nearest.{nearestOf, signedOf}
 use Rattle.accept.specs.declared.Answer.{Answer}
-use Rattle.accept.specs.declared.Answer.the-variants.{Refused, Told, Measure, Box, Away}
+use Rattle.accept.specs.declared.Answer.the-variants.{Refused, Count, Measure, Box, DistanceWith}
 use Rattle.accept.specs.declared.Refusal.the-variants.{BadPoint}
 use Rattle.accept.specs.declared.Test.{Test}
 use Rattle.accept.specs.Area.{areaOf}
@@ -30,11 +30,11 @@ queryTested v p = outlineTested v refusing BadPoint when not (pointInField p)
 
 -- yes is 1, and no is 0
 unfoldable pub containsAnswer : List Float → Point → Answer
-containsAnswer v p = given (queryTested v p) (Told (cond (containsOf (edges v) p) 1 0)) Refused
+containsAnswer v p = given (queryTested v p) (Count (cond (containsOf (edges v) p) 1 0)) Refused
 
 unfoldable pub locateAnswer : List Float → Point → Answer
-locateAnswer v p = given (queryTested v p) (Told (locateOf (edges v) p)) Refused
+locateAnswer v p = given (queryTested v p) (Count (locateOf (edges v) p)) Refused
 
 -- signed by `contains`
 unfoldable pub distanceAnswer : List Float → Point → Answer
-distanceAnswer v p = given (queryTested v p) (Away (signedOf (nearestOf (edges v) p) p (containsOf (edges v) p))) Refused
+distanceAnswer v p = given (queryTested v p) (DistanceWith (signedOf (nearestOf (edges v) p) p (containsOf (edges v) p))) Refused

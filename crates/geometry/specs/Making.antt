@@ -8,7 +8,7 @@ use lib.Ieee.{Float}
 use Rattle.boundary.specs.declared.Point.{Point}
 use Rattle.boundary.specs.Outline.{count, vertexAt, vertices}
 use Rattle.accept.specs.declared.Answer.{Answer}
-use Rattle.accept.specs.declared.Answer.the-variants.{Told}
+use Rattle.accept.specs.declared.Answer.the-variants.{Count}
 use Rattle.accept.specs.declared.CountFields.{CountFields}
 use Rattle.accept.specs.declared.Refusal.the-variants.{ShortBuffer}
 use Rattle.accept.specs.declared.Test.{Test}
@@ -38,19 +38,19 @@ unfoldable pub turned : Bool → List Point → List Point
 turned back ps = cond back (reverse ps) ps
 
 -- the numbers of the points, x then y
-unfoldable pub numbers : List Point → List Float
-numbers [] = []
-numbers (p ∷ ps) = p .x ∷ p .y ∷ numbers ps
+unfoldable pub coordinatesOf : List Point → List Float
+coordinatesOf [] = []
+coordinatesOf (p ∷ ps) = p .x ∷ p .y ∷ coordinatesOf ps
 
 -- the made outline
 unfoldable pub madeOf : List Float → List Float
-madeOf v = numbers (turned (negativeArea (kept v)) (vertices (kept v)))
+madeOf v = coordinatesOf (turned (negativeArea (kept v)) (vertices (kept v)))
 
 -- what making leaves: the number of vertices, and the made outline in the lent list
 unfoldable pub makeOutcome : List Float → List Float → Outcome Answer (List Float)
 makeOutcome v out =
     given (makeTested v (length out))
-    (record { answer = Told (count (kept v)); lent = atFront (madeOf v) out })
+    (record { answer = Count (count (kept v)); lent = atFront (madeOf v) out })
     (refusedWith out)
 
 -- the same as a call leaves it

@@ -8,8 +8,8 @@ use Rattle.number.specs.Exact.{zeroᶠ}
 use Rattle.boundary.specs.declared.Point.{Point}
 use Rattle.boundary.specs.declared.Edge.{Edge}
 use Rattle.boundary.specs.declared.Bounds.{Bounds}
-use Rattle.boundary.specs.Boxes.{lesser, greater, hull, nowhere, stretched}
-use Rattle.lists.specs.Lists.{run, fold, any, oddly}
+use Rattle.boundary.specs.Boxes.{lesser, greater, hull, emptyBox, stretched}
+use Rattle.lists.specs.Lists.{run, fold, any, oddMany}
 use Rattle.boundary.specs.Outline.{count, vertexAt}
 
 -- ---- containment: an edge counts when exactly one end has y above the point and the point's x is strictly below the crossing
@@ -20,35 +20,35 @@ crossesOf p e =
     && lt (p .x) (add binary64 (div binary64 (mul binary64 (sub binary64 (e .a .x) (e .b .x)) (sub binary64 (p .y) (e .b .y))) (sub binary64 (e .a .y) (e .b .y))) (e .b .x))
 
 unfoldable pub containsOf : List Edge → Point → Bool
-unfolding oddly crossesOf
-containsOf es p = oddly (crossesOf p) es
+unfolding oddMany crossesOf
+containsOf es p = oddMany (crossesOf p) es
 
 -- the same in the Rust's order: each vertex with the one before it, the first with the last
-abbrev pub before : ℕ → ℕ → ℕ
-before n i = cond (eqb i 0) (n - 1) (i - 1)
+abbrev pub previous : ℕ → ℕ → ℕ
+previous n i = cond (eqb i 0) (n - 1) (i - 1)
 
 abbrev pub edgeInto : List Float → ℕ → Edge
-edgeInto v i = record { a = vertexAt v (before (count v) i); b = vertexAt v i }
+edgeInto v i = record { a = vertexAt v (previous (count v) i); b = vertexAt v i }
 
 unfoldable pub containsRust : List Float → Point → Bool
-unfolding oddly crossesOf run
-containsRust v p = oddly (crossesOf p) (run (edgeInto v) 0 (count v))
+unfolding oddMany crossesOf run
+containsRust v p = oddMany (crossesOf p) (run (edgeInto v) 0 (count v))
 
 -- ---- location: 0 outside, 1 boundary, 2 inside, the boundary tested first
 -- q lies between a and b, ends included
-abbrev pub between : Float → Float → Float → Bool
-between a b q = le (lesser a b) q && le q (greater a b)
+abbrev pub betweenEnds : Float → Float → Float → Bool
+betweenEnds a b q = le (lesser a b) q && le q (greater a b)
 
 -- (b - a) × (p - a)
-abbrev pub turnOf : Edge → Point → Float
-turnOf e p =
+abbrev pub crossOf : Edge → Point → Float
+crossOf e p =
     sub binary64 (mul binary64 (sub binary64 (e .b .x) (e .a .x)) (sub binary64 (p .y) (e .a .y)))
     (mul binary64 (sub binary64 (e .b .y) (e .a .y)) (sub binary64 (p .x) (e .a .x)))
 
 -- the point lies within the box of the edge's two ends, and the cross product works out to zero
 unfoldable pub onEdge : Point → Edge → Bool
 unfolding sub mul lt le eq
-onEdge p e = eq (turnOf e p) zeroᶠ && (between (e .a .x) (e .b .x) (p .x) && between (e .a .y) (e .b .y) (p .y))
+onEdge p e = eq (crossOf e p) zeroᶠ && (betweenEnds (e .a .x) (e .b .x) (p .x) && betweenEnds (e .a .y) (e .b .y) (p .y))
 
 unfoldable pub locateOf : List Edge → Point → ℕ
 unfolding any onEdge containsOf
@@ -57,4 +57,4 @@ locateOf es p = cond (any (onEdge p) es) 1 (cond (containsOf es p) 2 0)
 -- ---- bounds: the box of all vertices
 unfoldable pub boundsOf : List Point → Bounds
 unfolding fold hull
-boundsOf ps = fold stretched nowhere ps
+boundsOf ps = fold stretched emptyBox ps

@@ -6,9 +6,9 @@ ghost use lib.ListN.{length};
 ghost use Rattle.lists.specs.Lists.{any, atFront};
 ghost use lib.Ieee.{unlike, lt};
 ghost use Rattle.boundary.specs.Outline.{count, vertexAt, vertices, edges};
-ghost use Rattle.geometry.specs.Polygon.{crossesOf, containsOf, between, turnOf, onEdge, locateOf, boundsOf};
+ghost use Rattle.geometry.specs.Polygon.{crossesOf, containsOf, betweenEnds, crossOf, onEdge, locateOf, boundsOf};
 ghost use Rattle.geometry.specs.Answers.{areaAnswer, perimeterAnswer, boundsAnswer, containsAnswer, locateAnswer, distanceAnswer};
-ghost use Rattle.geometry.specs.Making.{keptCount, turned, numbers, makeOutcome};
+ghost use Rattle.geometry.specs.Making.{keptCount, turned, coordinatesOf, makeOutcome};
 use accept::Answer;
 use accept::Refusal;
 use accept::Test;
@@ -17,8 +17,8 @@ use accept::refusals;
 use boundary::Bounds;
 use boundary::Edge;
 use boundary::Point;
-use boundary::boxes;
 use boundary::greater_of;
+use boundary::hulls;
 use boundary::lesser_of;
 
 // Whether an odd number of edges count for p once the edge from vertex j to vertex i is looked at, where `odd` tells
@@ -59,14 +59,14 @@ pub fn holds(v: &[f64], p: Point) -> bool
 }
 
 fn is_between(a: f64, b: f64, q: f64) -> bool
-    ensures { λ r. ⌜ r ≡ between a b q ⌝ }
+    ensures { λ r. ⌜ r ≡ betweenEnds a b q ⌝ }
 {
     (lesser_of(a, b) <= q) & (q <= greater_of(a, b))
 }
 
 // The cross product of the edge and the way from its start to p.
-fn turn(e: Edge, p: Point) -> f64
-    ensures { λ r. ⌜ r ≡ turnOf e p ⌝ }
+fn cross(e: Edge, p: Point) -> f64
+    ensures { λ r. ⌜ r ≡ crossOf e p ⌝ }
 {
     (e.b.x - e.a.x) * (p.y - e.a.y) - (e.b.y - e.a.y) * (p.x - e.a.x)
 }
@@ -74,7 +74,7 @@ fn turn(e: Edge, p: Point) -> f64
 fn is_on(p: Point, e: Edge) -> bool
     ensures { λ r. ⌜ r ≡ onEdge p e ⌝ }
 {
-    (turn(e, p) == 0.0) & (is_between(e.a.x, e.b.x, p.x) & is_between(e.a.y, e.b.y, p.y))
+    (cross(e, p) == 0.0) & (is_between(e.a.x, e.b.x, p.x) & is_between(e.a.y, e.b.y, p.y))
 }
 
 // Whether p is on an edge.
@@ -106,10 +106,10 @@ pub fn box_of(v: &[f64]) -> Bounds
     ensures { λ r. ⌜ r ≡ boundsOf (vertices (now (v .entry))) ⌝ }
 {
     let n = v.len() / 2;
-    let mut b = boxes::empty_box();
+    let mut b = hulls::empty_box();
     let mut i = 0;
     while i < n {
-        b = boxes::stretch(b, boundary::vertex_at(v, i));
+        b = hulls::stretch(b, boundary::vertex_at(v, i));
         i += 1;
     }
     b
@@ -148,7 +148,7 @@ pub fn contains(v: &[f64], p: Point) -> Answer
     let within = refusals::point_in_field(p);
     let t = refusals::outline_tested(v);
     match refusals::refusing(t, Refusal::BadPoint, !within) {
-        Test::Passed => Answer::Told(if holds(v, p) { 1 } else { 0 }),
+        Test::Passed => Answer::Count(if holds(v, p) { 1 } else { 0 }),
         Test::Failed(r) => Answer::Refused(r),
     }
 }
@@ -159,7 +159,7 @@ pub fn locate(v: &[f64], p: Point) -> Answer
     let within = refusals::point_in_field(p);
     let t = refusals::outline_tested(v);
     match refusals::refusing(t, Refusal::BadPoint, !within) {
-        Test::Passed => Answer::Told(location(v, p)),
+        Test::Passed => Answer::Count(location(v, p)),
         Test::Failed(r) => Answer::Refused(r),
     }
 }
@@ -175,7 +175,7 @@ pub fn distance(v: &[f64], p: Point) -> Answer
         Test::Passed => {
             let edge = distance::nearest::nearest_edge(v, p);
             let inside = holds(v, p);
-            Answer::Away(distance::nearest::distance(v, edge, p, inside))
+            Answer::DistanceWith(distance::nearest::distance(v, edge, p, inside))
         }
         Test::Failed(r) => Answer::Refused(r),
     }
@@ -206,7 +206,7 @@ fn source(back: bool, n: usize, i: usize) -> usize
 // Writes the vertices of v to the front of out, turned where `back` is set.
 fn write(v: &[f64], back: bool, out: &mut [f64])
     requires { ⌜ length (now v) ≤ length (now out) ⌝ }
-    ensures { λ _. ⌜ now (out .exit) ≡ atFront (numbers (turned back (vertices (now (v .entry))))) (now (out .entry)) ⌝ }
+    ensures { λ _. ⌜ now (out .exit) ≡ atFront (coordinatesOf (turned back (vertices (now (v .entry))))) (now (out .entry)) ⌝ }
 {
     let n = v.len() / 2;
     let mut i = 0;
@@ -231,7 +231,7 @@ pub fn new(v: &[f64], out: &mut [f64]) -> Answer
                 return Answer::Refused(Refusal::ShortBuffer);
             }
             write(kept, a < 0.0, out);
-            Answer::Told((m / 2) as u32)
+            Answer::Count((m / 2) as u32)
         }
         Verdict::TurnedAway(r) => Answer::Refused(r),
     }

@@ -9,11 +9,11 @@ use Rattle.algebra.specs.Quote.{quote}
 use Rattle.algebra.specs.Order.{_≦_, _≺_, within-of-sq, ≤ℤ-antisym, ≤ℤ-or-<ℤ, mul-le, mul-pos, sq-nonneg}
 use Rattle.algebra.specs.Lin.{le, eq, le-from, eq-from}
 use Rattle.algebra.specs.Mono.{mul-cancel-eq}
-use Rattle.grid.specs.Whole.{PointZ, EdgeZ, turnZ, onEdgeZ}
-use Rattle.grid.specs.Distance.{Stand, standOf, squaresZ, lengthZ, dotZ, numOf, numZ, Ratio}
-use Rattle.grid.specs.Distance.Stand.{before, beside, past}
+use Rattle.grid.specs.Whole.{PointZ, EdgeZ, crossZ, onEdgeZ}
+use Rattle.grid.specs.Distance.{Region, regionOf, squaresZ, lengthZ, dotZ, numOf, numZ, Ratio}
+use Rattle.grid.specs.Distance.Region.{beforeStart, beside, pastEnd}
 use Rattle.grid.proofs.Line.{product-scaled, on-edge}
-use Rattle.grid.proofs.Standing.{stands, reach, reach-ratio}
+use Rattle.grid.proofs.Regions.{in-region, reach, reach-ratio}
 
 zero-square : (x : ℤ) → x *ℤ x ≦ pos 0 → x ≡ pos 0
 zero-square x h = let w = within-of-sq x {d = pos 0} (record { le = tt }) h in ≤ℤ-antisym (w .high) (w .low)
@@ -42,22 +42,22 @@ module _ (f : EdgeZ) (q : PointZ) where
 
   -- a + (m / n) (b - a) is on the edge
   pub ratio-on-edge : {m n : ℤ} → Ratio m n → (q .x -ℤ f .a .x) *ℤ n ≡ (f .b .x -ℤ f .a .x) *ℤ m → (q .y -ℤ f .a .y) *ℤ n ≡ (f .b .y -ℤ f .a .y) *ℤ m → T (onEdgeZ q f)
-  unfolding turnZ
+  unfolding crossZ
   ratio-on-edge {m} {n} t x y = on-edge f q
-      (mul-cancel-eq n (turnZ f q) (pos 0) (t .above) (eq-from (m ∷ n ∷ σ) (eq (times (f .b .y -ℤ f .a .y) x) ∷ eq (times (f .b .x -ℤ f .a .x) y) ∷ []) (search quote depth 30) (omega arith)))
+      (mul-cancel-eq n (crossZ f q) (pos 0) (t .above) (eq-from (m ∷ n ∷ σ) (eq (times (f .b .y -ℤ f .a .y) x) ∷ eq (times (f .b .x -ℤ f .a .x) y) ∷ []) (search quote depth 30) (omega arith)))
       (between-ends t (f .a .x) (f .b .x) (q .x) x) (between-ends t (f .a .y) (f .b .y) (q .y) y)
 
   pub off-edge-apart : pos 0 ≺ lengthZ f → (T (onEdgeZ q f) → ⊥) → pos 0 ≺ numZ f q
-  unfolding numZ turnZ
-  off-edge-apart L0 off = let s = standOf f q in ⊎-elim (λ h. absurd (off (go s (reach-ratio dot l2 L0 s (stands dot l2)) h))) (λ k. k) (≤ℤ-or-<ℤ (numOf s f q) (pos 0))
+  unfolding numZ crossZ
+  off-edge-apart L0 off = let s = regionOf f q in ⊎-elim (λ h. absurd (off (go s (reach-ratio dot l2 L0 s (in-region dot l2)) h))) (λ k. k) (≤ℤ-or-<ℤ (numOf s f q) (pos 0))
     where
-      go : (s : Stand) → Ratio (reach s dot l2) l2 → numOf s f q ≦ pos 0 → T (onEdgeZ q f)
-      go before t h =
+      go : (s : Region) → Ratio (reach s dot l2) l2 → numOf s f q ≦ pos 0 → T (onEdgeZ q f)
+      go beforeStart t h =
           let z = zero-squares (q .x -ℤ f .a .x) (q .y -ℤ f .a .y) h in
           ratio-on-edge t (eq-from σ (eq (times l2 (z .0)) ∷ []) (search quote depth 30) (omega arith)) (eq-from σ (eq (times l2 (z .1)) ∷ []) (search quote depth 30) (omega arith))
       go beside t h =
-          let flat = zero-square (turnZ f q) h in
+          let flat = zero-square (crossZ f q) h in
           ratio-on-edge t (eq-from σ (eq (times (f .b .y -ℤ f .a .y) flat) ∷ []) (search quote depth 30) (omega arith)) (eq-from σ (eq (times (f .b .x -ℤ f .a .x) flat) ∷ []) (search quote depth 30) (omega arith))
-      go past t h =
+      go pastEnd t h =
           let z = zero-squares (q .x -ℤ f .b .x) (q .y -ℤ f .b .y) h in
           ratio-on-edge t (eq-from σ (eq (times l2 (z .0)) ∷ []) (search quote depth 30) (omega arith)) (eq-from σ (eq (times l2 (z .1)) ∷ []) (search quote depth 30) (omega arith))

@@ -5,7 +5,7 @@ pub mod LeastDistance
 -- A point off an edge is apart from it.
 pub mod Apart
 -- Where a point stands along an edge.
-pub mod Standing
+pub mod Regions
 -- Points on the line of an edge.
 pub mod Line
 -- Points between two ends.

@@ -14,7 +14,7 @@ use Rattle.algebra.specs.Lin.{le, lt, eq, le-from, lt-from, eq-from}
 use Rattle.algebra.specs.Mono.{mul-cancel}
 use Rattle.number.specs.Exact.{eqZ}
 use Rattle.number.proofs.Compare.{→eqZ, is-lt, not-lt}
-use Rattle.grid.specs.Whole.{PointZ, EdgeZ, turnZ, betweenZ, onEdgeZ}
+use Rattle.grid.specs.Whole.{PointZ, EdgeZ, crossZ, betweenZ, onEdgeZ}
 use Rattle.grid.proofs.Between.{product-between}
 
 -- q lies between a and b, ends included, and those differ
@@ -49,15 +49,15 @@ pub product-scaled : (u v d w r s : ℤ) → pos 0 ≺ d *ℤ d → u *ℤ d ≡
 product-scaled u v d w r s d0 f g h = mul-cancel (d *ℤ d) (u *ℤ v) (pos 0) d0 (le-from (u ∷ v ∷ d ∷ w ∷ r ∷ s ∷ []) (eq (ap₂ _*ℤ_ f g) ∷ le (mul-le (sq-nonneg w) h) ∷ []) (search quote depth 30) (omega arith))
 
 -- a point on the line of an edge, and in the box of its ends, is on the edge
-pub on-edge : (e : EdgeZ) (p : PointZ) → turnZ e p ≡ pos 0 → (p .x -ℤ e .a .x) *ℤ (p .x -ℤ e .b .x) ≦ pos 0 → (p .y -ℤ e .a .y) *ℤ (p .y -ℤ e .b .y) ≦ pos 0 → T (onEdgeZ p e)
+pub on-edge : (e : EdgeZ) (p : PointZ) → crossZ e p ≡ pos 0 → (p .x -ℤ e .a .x) *ℤ (p .x -ℤ e .b .x) ≦ pos 0 → (p .y -ℤ e .a .y) *ℤ (p .y -ℤ e .b .y) ≦ pos 0 → T (onEdgeZ p e)
 unfolding onEdgeZ
 on-edge e p flat h k =
-    and-i (eqZ (turnZ e p) (pos 0)) (betweenZ (e .a .x) (e .b .x) (p .x) && betweenZ (e .a .y) (e .b .y) (p .y)) (→eqZ flat)
+    and-i (eqZ (crossZ e p) (pos 0)) (betweenZ (e .a .x) (e .b .x) (p .x) && betweenZ (e .a .y) (e .b .y) (p .y)) (→eqZ flat)
     (and-i (betweenZ (e .a .x) (e .b .x) (p .x)) (betweenZ (e .a .y) (e .b .y) (p .y)) (product-between (e .a .x) (e .b .x) (p .x) h) (product-between (e .a .y) (e .b .y) (p .y) k))
 
 -- a height between the ends' heights is enough
-pub on-line : (e : EdgeZ) (p : PointZ) → Across (e .a .y) (e .b .y) (p .y) → turnZ e p ≡ pos 0 → T (onEdgeZ p e)
-unfolding turnZ
+pub on-line : (e : EdgeZ) (p : PointZ) → Across (e .a .y) (e .b .y) (p .y) → crossZ e p ≡ pos 0 → T (onEdgeZ p e)
+unfolding crossZ
 on-line e p h flat =
     let ρ = e .a .x ∷ e .a .y ∷ e .b .x ∷ e .b .y ∷ p .x ∷ p .y ∷ [] in
     on-edge e p flat

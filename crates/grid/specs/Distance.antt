@@ -4,7 +4,7 @@ use mathlib.Core.Bool.{cond}
 use lib.IntN.{ℤ, pos, _+ℤ_, _-ℤ_, _*ℤ_}
 use lib.Signed.{ltZ}
 use Rattle.algebra.specs.Order.{_≦_, _≺_}
-use Rattle.grid.specs.Whole.{PointZ, EdgeZ, turnZ}
+use Rattle.grid.specs.Whole.{PointZ, EdgeZ, crossZ}
 
 -- ---- one edge
 abbrev pub squaresZ : ℤ → ℤ → ℤ
@@ -23,30 +23,30 @@ abbrev pub dotZ : EdgeZ → PointZ → ℤ
 dotZ f q = (q .x -ℤ f .a .x) *ℤ (f .b .x -ℤ f .a .x) +ℤ (q .y -ℤ f .a .y) *ℤ (f .b .y -ℤ f .a .y)
 
 -- where a point stands, seen along the edge: up to its first end, beside it, or from its second end on
-pub data Stand : Type 0 where
-  before : Stand
-  beside : Stand
-  past : Stand
+pub data Region : Type 0 where
+  beforeStart : Region
+  beside : Region
+  pastEnd : Region
 
-abbrev pub standOf : EdgeZ → PointZ → Stand
-standOf f q = cond (ltZ (pos 0) (dotZ f q)) (cond (ltZ (dotZ f q) (lengthZ f)) beside past) before
+abbrev pub regionOf : EdgeZ → PointZ → Region
+regionOf f q = cond (ltZ (pos 0) (dotZ f q)) (cond (ltZ (dotZ f q) (lengthZ f)) beside pastEnd) beforeStart
 
 -- the squared distance for each: |q - a| ², the height over the edge ((b - a) × (q - a)) ² / |b - a| ², |q - b| ²
-abbrev pub numOf : Stand → EdgeZ → PointZ → ℤ
-numOf before f q = apartZ (f .a) q
-numOf beside f q = turnZ f q *ℤ turnZ f q
-numOf past f q = apartZ (f .b) q
+abbrev pub numOf : Region → EdgeZ → PointZ → ℤ
+numOf beforeStart f q = apartZ (f .a) q
+numOf beside f q = crossZ f q *ℤ crossZ f q
+numOf pastEnd f q = apartZ (f .b) q
 
-abbrev pub denOf : Stand → EdgeZ → ℤ
-denOf before f = pos 1
+abbrev pub denOf : Region → EdgeZ → ℤ
+denOf beforeStart f = pos 1
 denOf beside f = lengthZ f
-denOf past f = pos 1
+denOf pastEnd f = pos 1
 
 unfoldable pub numZ : EdgeZ → PointZ → ℤ
-numZ f q = numOf (standOf f q) f q
+numZ f q = numOf (regionOf f q) f q
 
 unfoldable pub denZ : EdgeZ → PointZ → ℤ
-denZ f q = denOf (standOf f q) f
+denZ f q = denOf (regionOf f q) f
 
 -- ---- it is the squared distance to the nearest point of the closed edge
 -- the points of the closed edge are a + (m / n) (b - a), with m / n from 0 to 1
@@ -60,7 +60,7 @@ abbrev pub awayZ : EdgeZ → PointZ → ℤ → ℤ → ℤ
 awayZ f q m n = squaresZ ((q .x -ℤ f .a .x) *ℤ n -ℤ (f .b .x -ℤ f .a .x) *ℤ m) ((q .y -ℤ f .a .y) *ℤ n -ℤ (f .b .y -ℤ f .a .y) *ℤ m)
 
 -- no point of the edge is nearer than √(num / den), and one is as near
-pub record Least (f : EdgeZ) (q : PointZ) (num den : ℤ) : Type 0 where
+pub record LeastDistance (f : EdgeZ) (q : PointZ) (num den : ℤ) : Type 0 where
   pub none-nearer : {m n : ℤ} → Ratio m n → num *ℤ (n *ℤ n) ≦ awayZ f q m n *ℤ den
   pub m : ℤ
   pub n : ℤ

@@ -6,7 +6,7 @@ use lib.IntN.{ℤ, pos, _+ℤ_, _-ℤ_, _*ℤ_}
 use lib.Signed.{ltZ, leZ}
 use lib.Ieee.{unlike}
 use Rattle.number.specs.Exact.{eqZ}
-use Rattle.lists.specs.Lists.{fold, any, oddly}
+use Rattle.lists.specs.Lists.{fold, any, oddMany}
 
 pub record PointZ : Type 0 where
   pub x : ℤ
@@ -21,26 +21,26 @@ abbrev pub edgeZ : PointZ → PointZ → EdgeZ
 edgeZ a b = record { a = a; b = b }
 
 -- ---- area: half the exact shoelace sum
-unfoldable pub crossZ : EdgeZ → ℤ
-crossZ e = e .a .x *ℤ e .b .y -ℤ e .b .x *ℤ e .a .y
+unfoldable pub shoelaceTermZ : EdgeZ → ℤ
+shoelaceTermZ e = e .a .x *ℤ e .b .y -ℤ e .b .x *ℤ e .a .y
 
 -- the sum; the area is half of it
 unfoldable pub shoelaceZ : List EdgeZ → ℤ
-unfolding fold crossZ
-shoelaceZ es = fold (λ s e. s +ℤ crossZ e) (pos 0) es
+unfolding fold shoelaceTermZ
+shoelaceZ es = fold (λ s e. s +ℤ shoelaceTermZ e) (pos 0) es
 
 -- ---- a point on a closed edge is on the boundary
 -- (b - a) × (p - a), which is zero where p is on the line of the edge
-unfoldable pub turnZ : EdgeZ → PointZ → ℤ
-turnZ e p = (e .b .x -ℤ e .a .x) *ℤ (p .y -ℤ e .a .y) -ℤ (e .b .y -ℤ e .a .y) *ℤ (p .x -ℤ e .a .x)
+unfoldable pub crossZ : EdgeZ → PointZ → ℤ
+crossZ e p = (e .b .x -ℤ e .a .x) *ℤ (p .y -ℤ e .a .y) -ℤ (e .b .y -ℤ e .a .y) *ℤ (p .x -ℤ e .a .x)
 
 -- q lies between a and b, ends included
 unfoldable pub betweenZ : ℤ → ℤ → ℤ → Bool
 betweenZ a b q = (leZ a q && leZ q b) || (leZ b q && leZ q a)
 
 unfoldable pub onEdgeZ : PointZ → EdgeZ → Bool
-unfolding turnZ betweenZ
-onEdgeZ p e = eqZ (turnZ e p) (pos 0) && (betweenZ (e .a .x) (e .b .x) (p .x) && betweenZ (e .a .y) (e .b .y) (p .y))
+unfolding crossZ betweenZ
+onEdgeZ p e = eqZ (crossZ e p) (pos 0) && (betweenZ (e .a .x) (e .b .x) (p .x) && betweenZ (e .a .y) (e .b .y) (p .y))
 
 unfoldable pub boundaryZ : List EdgeZ → PointZ → Bool
 unfolding any onEdgeZ
@@ -56,8 +56,8 @@ crossesZ p e =
     && ltZ ((p .x -ℤ e .b .x) *ℤ (d *ℤ d)) ((e .a .x -ℤ e .b .x) *ℤ (p .y -ℤ e .b .y) *ℤ d)
 
 unfoldable pub insideZ : List EdgeZ → PointZ → Bool
-unfolding oddly crossesZ
-insideZ es p = oddly (crossesZ p) es
+unfolding oddMany crossesZ
+insideZ es p = oddMany (crossesZ p) es
 
 -- ---- location: 0 outside, 1 boundary, 2 inside
 unfoldable pub locationZ : List EdgeZ → PointZ → ℕ

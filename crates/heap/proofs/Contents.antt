@@ -13,7 +13,7 @@ use lib.ListN.{length, getD, set, length-set}
 use lib.Seq.{getD-set-same, getD-set-other}
 use lib.Ieee.{Float, nan, inf, fin}
 use Rattle.heap.specs.declared.Entry.{Entry}
-use Rattle.heap.specs.Heap.{entryAt, total}
+use Rattle.heap.specs.Heap.{entryAt, totalWeight}
 use Rattle.heap.specs.Sifts.{exchanged}
 
 -- ---- g is f with the entries at i and j exchanged
@@ -53,18 +53,18 @@ swap-all P {f} {g} {i} {j} S I J h k K = go (ℕ-discrete k i) (ℕ-discrete k j
 
 -- ---- totals
 module _ (w : Entry → ℕ) where
-  pub total-same : {f g : ℕ → Entry} (n : ℕ) → ((k : ℕ) → k < n → g k ≡ f k) → total w g n ≡ total w f n
-  unfolding total
+  pub total-same : {f g : ℕ → Entry} (n : ℕ) → ((k : ℕ) → k < n → g k ≡ f k) → totalWeight w g n ≡ totalWeight w f n
+  unfolding totalWeight
   total-same zero h = refl
   total-same (suc n) h = rw (total-same n (λ k K. h k (omega arith)), h n (omega arith))
 
   -- where only the entry at i is another
-  total-put : {f g : ℕ → Entry} (i n : ℕ) → ((k : ℕ) → (k ≡ i → ⊥) → g k ≡ f k) → i < n → total w g n + w (f i) ≡ total w f n + w (g i)
-  unfolding total
+  total-put : {f g : ℕ → Entry} (i n : ℕ) → ((k : ℕ) → (k ≡ i → ⊥) → g k ≡ f k) → i < n → totalWeight w g n + w (f i) ≡ totalWeight w f n + w (g i)
+  unfolding totalWeight
   total-put i zero h I = absurd (omega arith)
   total-put {f} {g} i (suc n) h I = go (ℕ-discrete i n) (total-put {f = f} {g = g} i n h)
     where
-      go : Dec (i ≡ n) → (i < n → total w g n + w (f i) ≡ total w f n + w (g i)) → total w g (suc n) + w (f i) ≡ total w f (suc n) + w (g i)
+      go : Dec (i ≡ n) → (i < n → totalWeight w g n + w (f i) ≡ totalWeight w f n + w (g i)) → totalWeight w g (suc n) + w (f i) ≡ totalWeight w f (suc n) + w (g i)
       go (yes e) ih =
           let same = total-same {f = f} {g = g} n (λ k K. h k (λ z. omega arith)) in
           let a = ap (λ (v : ℕ). w (f v)) e in
@@ -75,7 +75,7 @@ module _ (w : Entry → ℕ) where
           let last = ap w (h n (λ z. e (sym z))) in
           omega arith
 
-  pub total-swap : {f g : ℕ → Entry} {i j : ℕ} (n : ℕ) → Swap f g i j → i < n → j < n → total w g n ≡ total w f n
+  pub total-swap : {f g : ℕ → Entry} {i j : ℕ} (n : ℕ) → Swap f g i j → i < n → j < n → totalWeight w g n ≡ totalWeight w f n
   total-swap {f} {g} {i} {j} n S I J =
       let one = total-put {f = f} {g = half} i n (λ k a. half-rest k a) I in
       let two = total-put {f = half} {g = g} j n (λ k a. after k a (ℕ-discrete k i)) J in
@@ -146,27 +146,27 @@ one-self y = go (entry-same y y)
     go (yes e) = refl
     go (no a) = absurd (a refl)
 
-counted : (f : ℕ → Entry) (n k : ℕ) → k < n → 0 < total (isOne (f k)) f n
-unfolding total
+counted : (f : ℕ → Entry) (n k : ℕ) → k < n → 0 < totalWeight (isOne (f k)) f n
+unfolding totalWeight
 counted f zero k K = absurd (omega arith)
 counted f (suc n) k K = go (ℕ-discrete k n) (counted f n k)
   where
-    go : Dec (k ≡ n) → (k < n → 0 < total (isOne (f k)) f n) → 0 < total (isOne (f k)) f (suc n)
+    go : Dec (k ≡ n) → (k < n → 0 < totalWeight (isOne (f k)) f n) → 0 < totalWeight (isOne (f k)) f (suc n)
     go (yes e) ih = rw e (omega (arith, one-self (f n)))
     go (no a) ih = omega (arith, ih (omega arith))
 
 -- what holds of the first n entries holds of each that counts among them
-counts-say : (P : Entry → Type 0) (f : ℕ → Entry) (n : ℕ) (y : Entry) → ((k : ℕ) → k < n → P (f k)) → 0 < total (isOne y) f n → P y
-unfolding total
+counts-say : (P : Entry → Type 0) (f : ℕ → Entry) (n : ℕ) (y : Entry) → ((k : ℕ) → k < n → P (f k)) → 0 < totalWeight (isOne y) f n → P y
+unfolding totalWeight
 counts-say P f zero y h l = absurd (omega arith)
 counts-say P f (suc n) y h l = go (entry-same (f n) y) refl (counts-say P f n y (λ k K. h k (omega arith)))
   where
-    go : (d : Dec (f n ≡ y)) → isOne y (f n) ≡ one-for d → (0 < total (isOne y) f n → P y) → P y
+    go : (d : Dec (f n ≡ y)) → isOne y (f n) ≡ one-for d → (0 < totalWeight (isOne y) f n → P y) → P y
     go (yes e) q ih = subst P e (h n (omega arith))
     go (no a) q ih = ih (omega (arith, q))
 
 -- where every weight's total of g is that of f and of x, what holds of all of f and of x holds of all of g
-pub more-all : (P : Entry → Type 0) (f g : ℕ → Entry) {m n : ℕ} {x : Entry} → ((w : Entry → ℕ) → total w g m ≡ total w f n + w x) → ((k : ℕ) → k < n → P (f k)) → P x → (k : ℕ) → k < m → P (g k)
+pub more-all : (P : Entry → Type 0) (f g : ℕ → Entry) {m n : ℕ} {x : Entry} → ((w : Entry → ℕ) → totalWeight w g m ≡ totalWeight w f n + w x) → ((k : ℕ) → k < n → P (f k)) → P x → (k : ℕ) → k < m → P (g k)
 more-all P f g {m} {n} {x} e h p k K = go (entry-same x (g k)) refl
   where
     go : (d : Dec (x ≡ g k)) → isOne (g k) x ≡ one-for d → P (g k)
@@ -174,7 +174,7 @@ more-all P f g {m} {n} {x} e h p k K = go (entry-same x (g k)) refl
     go (no a) z = counts-say P f n (g k) h (omega (arith, counted g m k K, e (isOne (g k)), z))
 
 -- and the other way round
-pub less-all : (P : Entry → Type 0) (f g : ℕ → Entry) {m n : ℕ} {x : Entry} → ((w : Entry → ℕ) → total w g m ≡ total w f n + w x) → ((k : ℕ) → k < m → P (g k)) → ((k : ℕ) → k < n → P (f k)) × P x
+pub less-all : (P : Entry → Type 0) (f g : ℕ → Entry) {m n : ℕ} {x : Entry} → ((w : Entry → ℕ) → totalWeight w g m ≡ totalWeight w f n + w x) → ((k : ℕ) → k < m → P (g k)) → ((k : ℕ) → k < n → P (f k)) × P x
 less-all P f g {m} {n} {x} e h = (
   λ k K. counts-say P g m (f k) h (omega (arith, counted f n k K, e (isOne (f k)))),
   counts-say P g m x h (omega (arith, e (isOne x), one-self x)),

@@ -10,8 +10,8 @@ use lib.ListN.{length, set}
 use lib.Seq.{getD-set-same, getD-set-other}
 use lib.Ieee.{Float, nan, le}
 use Rattle.heap.specs.declared.Entry.{Entry}
-use Rattle.heap.specs.Order.{Number, _≼_}
-use Rattle.heap.specs.Heap.{entryAt, parent, Heaped, total, Pushed, Popped}
+use Rattle.heap.specs.Order.{NumberGap, _≼_}
+use Rattle.heap.specs.Heap.{entryAt, parent, Heaped, totalWeight, Pushed, Popped}
 use Rattle.heap.specs.Sifts.{Rising, Sinking, Sifted}
 use Rattle.heap.proofs.OrderLaws.{upto-gap, upto-through}
 use Rattle.heap.proofs.Contents.{Swap, swap-all, total-same, total-swap, more-all, less-all}
@@ -51,7 +51,7 @@ module _ (N : List ℕ) (G : List Float) (n : ℕ) (x : Entry) (nodes : n < leng
   longer-last : longer n ≡ x
   longer-last = rw (getD-set-same N n (x .node) 0 nodes, getD-set-same G n (x .gap) nan gaps)
 
-  pub push-rising : Heaped (entryAt N G) n → Number x → Rising longer (n + 1) n
+  pub push-rising : Heaped (entryAt N G) n → NumberGap x → Rising longer (n + 1) n
   push-rising H X = record {
     here = last;
     numbers = λ k K. number k K (ℕ-discrete k n);
@@ -59,15 +59,15 @@ module _ (N : List ℕ) (G : List Float) (n : ℕ) (x : Entry) (nodes : n < leng
     across = λ k K e I. absurd (omega arith);
   }
     where
-      last : Number (longer n)
-      last = subst Number (sym longer-last) X
+      last : NumberGap (longer n)
+      last = subst NumberGap (sym longer-last) X
 
-      number : (k : ℕ) → k < n + 1 → Dec (k ≡ n) → Number (longer k)
-      number k K (yes e) = subst (λ (v : ℕ). Number (longer v)) (sym e) last
-      number k K (no a) = subst Number (sym (longer-rest k (omega arith))) (H .ordered k (omega arith) .right)
+      number : (k : ℕ) → k < n + 1 → Dec (k ≡ n) → NumberGap (longer k)
+      number k K (yes e) = subst (λ (v : ℕ). NumberGap (longer v)) (sym e) last
+      number k K (no a) = subst NumberGap (sym (longer-rest k (omega arith))) (H .ordered k (omega arith) .right)
 
   pub pushed : {g : ℕ → Entry} → Sifted longer (n + 1) g → Pushed (entryAt N G) n x g
-  unfolding total
+  unfolding totalWeight
   pushed S = record { heaped = S .heaped; contents = λ w. S .contents w ∙ rw (add-one n, total-same w {f = entryAt N G} {g = longer} n longer-rest, longer-last) }
 
 -- ---- pop: the last entry takes the root's place, and sinks
@@ -75,24 +75,24 @@ module _ {f h : ℕ → Entry} {n : ℕ} (S : Swap f h 0 (n - 1)) (N0 : 0 < n) (
   pub pop-sinking : Sinking h (n - 1) 0
   pop-sinking = record {
     here = rw (S .left) (number (n - 1) (omega arith));
-    numbers = λ k K. swap-all Number S N0 (omega arith) number k (omega arith);
+    numbers = λ k K. swap-all NumberGap S N0 (omega arith) number k (omega arith);
     ordered = λ k K a. rw (S .rest (parent k) a (λ z. omega arith), S .rest k (λ z. omega arith) (λ z. omega arith)) (H .ordered k (omega arith));
     across = λ k K e I. absurd (omega arith);
   }
     where
-      number : (k : ℕ) → k < n → Number (f k)
+      number : (k : ℕ) → k < n → NumberGap (f k)
       number k K = H .ordered k K .right
 
   pub popped : {g : ℕ → Entry} → Sifted h (n - 1) g → Popped f n (f 0) g
-  unfolding total
+  unfolding totalWeight
   popped {g} D = record { heaped = D .heaped; contents = contents; least = less-all (λ (y : Entry). f 0 ≼ y) g f contents (root-least H) .0 }
     where
-      contents : (w : Entry → ℕ) → total w f n ≡ total w g (n - 1) + w (f 0)
+      contents : (w : Entry → ℕ) → totalWeight w f n ≡ totalWeight w g (n - 1) + w (f 0)
       contents w =
           let last : n ≡ suc (n - 1) = omega arith in
-          let split : total w h (suc (n - 1)) ≡ total w h (n - 1) + w (h (n - 1)) = refl in
+          let split : totalWeight w h (suc (n - 1)) ≡ totalWeight w h (n - 1) + w (h (n - 1)) = refl in
           let moved = ap w (S .right) in
           let same = total-swap w n S N0 (omega arith) in
-          let whole = ap (total w h) last in
+          let whole = ap (totalWeight w h) last in
           let sifted = D .contents w in
           omega arith

@@ -12,19 +12,19 @@ use lib.Ieee.Fits.{and-l, and-r, and-i}
 use Rattle.number.proofs.Basics.{or-l, or-r, or-split}
 use Rattle.number.proofs.OrderLaws.{not-below, below-le, level-le, le-level, below-not-le, le-through}
 use Rattle.heap.specs.declared.Entry.{Entry}
-use Rattle.heap.specs.Order.{before, Number, _≼_}
+use Rattle.heap.specs.Order.{entryBefore, NumberGap, _≼_}
 
--- ---- what `before` says of the gaps and the node numbers
+-- ---- what `entryBefore` says of the gaps and the node numbers
 module _ (a b : Entry) where
-  before-gap : T (before a b) → T (le (a .gap) (b .gap))
-  unfolding before
+  before-gap : T (entryBefore a b) → T (le (a .gap) (b .gap))
+  unfolding entryBefore
   before-gap h =
       ⊎-elim (λ l. below-le (a .gap) (b .gap) (is-true (lt (a .gap) (b .gap)) l))
       (λ t. level-le (a .gap) (b .gap) (is-true (eq (a .gap) (b .gap)) (and-l (eq (a .gap) (b .gap)) (ltb (a .node) (b .node)) t)))
       (or-split (lt (a .gap) (b .gap)) (eq (a .gap) (b .gap) && ltb (a .node) (b .node)) h)
 
-  before-node : T (before a b) → T (le (b .gap) (a .gap)) → a .node < b .node
-  unfolding before
+  before-node : T (entryBefore a b) → T (le (b .gap) (a .gap)) → a .node < b .node
+  unfolding entryBefore
   before-node h k =
       ⊎-elim (λ l. absurd (below-not-le (a .gap) (b .gap) l k))
       (λ t. ltb→lt (a .node) (b .node) (and-r (eq (a .gap) (b .gap)) (ltb (a .node) (b .node)) t))
@@ -33,39 +33,39 @@ module _ (a b : Entry) where
 -- ---- and what `≼` says
 module _ {a b : Entry} (h : a ≼ b) where
   pub upto-gap : T (le (a .gap) (b .gap))
-  unfolding before
+  unfolding entryBefore
   upto-gap = go (lt (b .gap) (a .gap)) refl
     where
       go : (t : Bool) → lt (b .gap) (a .gap) ≡ t → T (le (a .gap) (b .gap))
-      go true e = absurd (T-not (before b a) (h .order) (or-l (lt (b .gap) (a .gap)) (eq (b .gap) (a .gap) && ltb (b .node) (a .node)) (subst T (sym e) tt)))
+      go true e = absurd (T-not (entryBefore b a) (h .order) (or-l (lt (b .gap) (a .gap)) (eq (b .gap) (a .gap) && ltb (b .node) (a .node)) (subst T (sym e) tt)))
       go false e = not-below (b .gap) (a .gap) (h .right) (h .left) e
 
   upto-node : T (le (b .gap) (a .gap)) → a .node ≤ b .node
-  unfolding before
+  unfolding entryBefore
   upto-node k = go (ltb (b .node) (a .node)) refl
     where
       go : (t : Bool) → ltb (b .node) (a .node) ≡ t → a .node ≤ b .node
-      go true e = absurd (T-not (before b a) (h .order) (or-r (lt (b .gap) (a .gap)) (eq (b .gap) (a .gap) && ltb (b .node) (a .node)) (and-i (eq (b .gap) (a .gap)) (ltb (b .node) (a .node)) (le-level (b .gap) (a .gap) k upto-gap) (subst T (sym e) tt))))
+      go true e = absurd (T-not (entryBefore b a) (h .order) (or-r (lt (b .gap) (a .gap)) (eq (b .gap) (a .gap) && ltb (b .node) (a .node)) (and-i (eq (b .gap) (a .gap)) (ltb (b .node) (a .node)) (le-level (b .gap) (a .gap) k upto-gap) (subst T (sym e) tt))))
       go false e = ltb-false (b .node) (a .node) e
 
 -- ---- the order is total
-pub upto-of-before : (a b : Entry) → Number a → Number b → T (before a b) → a ≼ b
-upto-of-before a b l r h = record { left = l; right = r; order = not-T (before b a) (λ k. omega (arith, before-node a b h (before-gap b a k), before-node b a k (before-gap a b h))) }
+pub upto-of-before : (a b : Entry) → NumberGap a → NumberGap b → T (entryBefore a b) → a ≼ b
+upto-of-before a b l r h = record { left = l; right = r; order = not-T (entryBefore b a) (λ k. omega (arith, before-node a b h (before-gap b a k), before-node b a k (before-gap a b h))) }
 
-pub upto-of-not : (a b : Entry) → Number a → Number b → before b a ≡ false → a ≼ b
+pub upto-of-not : (a b : Entry) → NumberGap a → NumberGap b → entryBefore b a ≡ false → a ≼ b
 upto-of-not a b l r e = record { left = l; right = r; order = subst (λ (t : Bool). T (not t)) (sym e) tt }
 
-pub upto-self : (a : Entry) → Number a → a ≼ a
-upto-self a n = go (before a a) refl
+pub upto-self : (a : Entry) → NumberGap a → a ≼ a
+upto-self a n = go (entryBefore a a) refl
   where
-    go : (t : Bool) → before a a ≡ t → a ≼ a
+    go : (t : Bool) → entryBefore a a ≡ t → a ≼ a
     go true e = upto-of-before a a n n (subst T (sym e) tt)
     go false e = upto-of-not a a n n e
 
 pub upto-through : {a b c : Entry} → a ≼ b → b ≼ c → a ≼ c
-upto-through {a} {b} {c} h k = record { left = h .left; right = k .right; order = not-T (before c a) clash }
+upto-through {a} {b} {c} h k = record { left = h .left; right = k .right; order = not-T (entryBefore c a) clash }
   where
-    clash : T (before c a) → ⊥
+    clash : T (entryBefore c a) → ⊥
     clash t =
         let ca = before-gap c a t in
         let ab = upto-gap h in

@@ -11,9 +11,9 @@ use lib.Dec.{T, ltb}
 use lib.ListN.{length, length-set}
 use lib.Ieee.{Float, nan}
 use Rattle.heap.specs.declared.Entry.{Entry}
-use Rattle.heap.specs.Order.{before, Number, _≼_}
-use Rattle.heap.specs.Heap.{entryAt, parent, Heaped, total}
-use Rattle.heap.specs.Sifts.{exchanged, rises, firstOf, leastOf, Rising, Sinking}
+use Rattle.heap.specs.Order.{entryBefore, NumberGap, _≼_}
+use Rattle.heap.specs.Heap.{entryAt, parent, Heaped, totalWeight}
+use Rattle.heap.specs.Sifts.{exchanged, rises, earlierOf, leastChild, Rising, Sinking}
 use Rattle.heap.proofs.OrderLaws.{upto-of-before, upto-of-not, upto-self, upto-through}
 use Rattle.heap.proofs.Contents.{Swap, exchanged-swap, swap-all, total-swap}
 
@@ -25,7 +25,7 @@ moved h p q = rw (p, q) h
 pub record Moving (M : List ℕ) (F : List Float) (n : ℕ) (N : List ℕ) (G : List Float) : Type 0 where
   pub nodes : length N ≡ length M
   pub gaps : length G ≡ length F
-  pub contents : (w : Entry → ℕ) → total w (entryAt N G) n ≡ total w (entryAt M F) n
+  pub contents : (w : Entry → ℕ) → totalWeight w (entryAt N G) n ≡ totalWeight w (entryAt M F) n
 
 pub moving : (M : List ℕ) (F : List Float) (n : ℕ) → Moving M F n M F
 moving M F n = record { nodes = refl; gaps = refl; contents = λ w. refl }
@@ -38,9 +38,9 @@ move-on {n = n} H I J e d S = record {
 }
 
 -- ---- up
-pub rises-says : (f : ℕ → Entry) (i : ℕ) → rises f i ≡ true → (0 < i) × (before (f i) (f (parent i)) ≡ true)
+pub rises-says : (f : ℕ → Entry) (i : ℕ) → rises f i ≡ true → (0 < i) × (entryBefore (f i) (f (parent i)) ≡ true)
 unfolding rises
-rises-says f i = go (ltb 0 i) refl (before (f i) (f (parent i)))
+rises-says f i = go (ltb 0 i) refl (entryBefore (f i) (f (parent i)))
   where
     go : (s : Bool) → ltb 0 i ≡ s → (t : Bool) → (s && t) ≡ true → (0 < i) × (t ≡ true)
     go true e t h = (ltb-true 0 i e, h)
@@ -49,7 +49,7 @@ rises-says f i = go (ltb 0 i) refl (before (f i) (f (parent i)))
 module _ {f : ℕ → Entry} {n i : ℕ} (R : Rising f n i) (I : i < n) where
   pub risen : rises f i ≡ false → Heaped f n
   unfolding rises
-  risen = go (ltb 0 i) refl (before (f i) (f (parent i))) refl
+  risen = go (ltb 0 i) refl (entryBefore (f i) (f (parent i))) refl
     where
       heap : f (parent i) ≼ f i → Heaped f n
       heap h = record { ordered = λ k K. at k K (ℕ-discrete k i) }
@@ -58,15 +58,15 @@ module _ {f : ℕ → Entry} {n i : ℕ} (R : Rising f n i) (I : i < n) where
           at k K (yes e) = rw e h
           at k K (no a) = R .ordered k K a
 
-      go : (s : Bool) → ltb 0 i ≡ s → (t : Bool) → before (f i) (f (parent i)) ≡ t → (s && t) ≡ false → Heaped f n
+      go : (s : Bool) → ltb 0 i ≡ s → (t : Bool) → entryBefore (f i) (f (parent i)) ≡ t → (s && t) ≡ false → Heaped f n
       go true e true u h = absurd (subst T h tt)
       go true e false u h = heap (upto-of-not (f (parent i)) (f i) (R .numbers (parent i) (omega arith)) (R .here) u)
       go false e t u h = let z : i ≡ 0 = omega (arith, ltb-false 0 i e) in heap (subst (λ (v : ℕ). f (parent v) ≼ f v) (sym z) (upto-self (f 0) (R .numbers 0 (omega arith))))
 
-  pub rise-on : {g : ℕ → Entry} → 0 < i → before (f i) (f (parent i)) ≡ true → Swap f g i (parent i) → Rising g n (parent i)
+  pub rise-on : {g : ℕ → Entry} → 0 < i → entryBefore (f i) (f (parent i)) ≡ true → Swap f g i (parent i) → Rising g n (parent i)
   rise-on {g} I0 b S = record {
     here = rw (S .right) (R .here);
-    numbers = swap-all Number S I P (R .numbers);
+    numbers = swap-all NumberGap S I P (R .numbers);
     ordered = λ k K a. order k K a (ℕ-discrete k i) (ℕ-discrete (parent k) i) (ℕ-discrete (parent k) p);
     across = λ k K e P0. over k K e P0 (ℕ-discrete k i);
   }
@@ -91,9 +91,9 @@ module _ {f : ℕ → Entry} {n i : ℕ} (R : Rising f n i) (I : i < n) where
       over k K e P0 (no a) = moved (upto-through (R .ordered p P (λ z. omega arith)) (rw e at (R .ordered k K a))) (S .rest (parent p) (λ z. omega arith) (λ z. omega arith)) (S .rest k a (λ z. omega arith))
 
 -- ---- the least of an entry and its children
-pub first-place : (f : ℕ → Entry) (n a b : ℕ) → (firstOf f n a b ≡ a) ⊎ ((firstOf f n a b ≡ b) × (b < n))
-unfolding firstOf
-first-place f n a b = go (ltb b n) refl (before (f b) (f a))
+pub first-place : (f : ℕ → Entry) (n a b : ℕ) → (earlierOf f n a b ≡ a) ⊎ ((earlierOf f n a b ≡ b) × (b < n))
+unfolding earlierOf
+first-place f n a b = go (ltb b n) refl (entryBefore (f b) (f a))
   where
     go : (s : Bool) → ltb b n ≡ s → (t : Bool) → (cond (s && t) b a ≡ a) ⊎ ((cond (s && t) b a ≡ b) × (b < n))
     go true e true = inr (refl, ltb-true b n e)
@@ -101,19 +101,19 @@ first-place f n a b = go (ltb b n) refl (before (f b) (f a))
     go false e t = inl refl
 
 -- a place without children
-pub least-leaf : (f : ℕ → Entry) (n i : ℕ) → n / 2 ≤ i → leastOf f n i ≡ i
-unfolding leastOf firstOf
+pub least-leaf : (f : ℕ → Entry) (n i : ℕ) → n / 2 ≤ i → leastChild f n i ≡ i
+unfolding leastChild earlierOf
 least-leaf f n i h = rw (le-ltb (2 * i + 1) n (omega arith), le-ltb (2 * i + 2) n (omega arith))
 
 record First (f : ℕ → Entry) (n a b m : ℕ) : Type 0 where
   upto : f m ≼ f a
   below : b < n → f m ≼ f b
 
-first : (f : ℕ → Entry) (n a b : ℕ) → Number (f a) → (b < n → Number (f b)) → First f n a b (firstOf f n a b)
-unfolding firstOf
-first f n a b A B = go (ltb b n) refl (before (f b) (f a)) refl
+first : (f : ℕ → Entry) (n a b : ℕ) → NumberGap (f a) → (b < n → NumberGap (f b)) → First f n a b (earlierOf f n a b)
+unfolding earlierOf
+first f n a b A B = go (ltb b n) refl (entryBefore (f b) (f a)) refl
   where
-    go : (s : Bool) → ltb b n ≡ s → (t : Bool) → before (f b) (f a) ≡ t → First f n a b (cond (s && t) b a)
+    go : (s : Bool) → ltb b n ≡ s → (t : Bool) → entryBefore (f b) (f a) ≡ t → First f n a b (cond (s && t) b a)
     go true e true h = let l = ltb-true b n e in record { upto = upto-of-before (f b) (f a) (B l) A (subst T (sym h) tt); below = λ l. upto-self (f b) (B l) }
     go true e false h = record { upto = upto-self (f a) A; below = λ l. upto-of-not (f a) (f b) A (B l) h }
     go false e t h = record { upto = upto-self (f a) A; below = λ l. absurd (omega (arith, ltb-false b n e)) }
@@ -123,11 +123,11 @@ record Least (f : ℕ → Entry) (n i m : ℕ) : Type 0 where
   upto : f m ≼ f i
   below : (k : ℕ) → 0 < k → k < n → parent k ≡ i → f m ≼ f k
 
-least : {f : ℕ → Entry} {n i : ℕ} → Sinking f n i → Least f n i (leastOf f n i)
-unfolding leastOf
+least : {f : ℕ → Entry} {n i : ℕ} → Sinking f n i → Least f n i (leastChild f n i)
+unfolding leastChild
 least {f} {n} {i} R =
     let A = first f n i (2 * i + 1) (R .here) (R .numbers (2 * i + 1)) in
-    let m = firstOf f n i (2 * i + 1) in
+    let m = earlierOf f n i (2 * i + 1) in
     let B = first f n m (2 * i + 2) (A .upto .left) (R .numbers (2 * i + 2)) in
     record {
       place = ⊎-elim (λ e. ⊎-elim (λ d. inl (subst (λ (v : ℕ). v ≡ i) (sym e) d)) (λ d. inr (omega arith, omega arith, omega arith)) (first-place f n i (2 * i + 1))) (λ e. inr (omega arith, omega arith, omega arith)) (first-place f n m (2 * i + 2));
@@ -141,7 +141,7 @@ least {f} {n} {i} R =
 
 -- ---- down
 module _ {f : ℕ → Entry} {n i : ℕ} (R : Sinking f n i) where
-  pub sunk : leastOf f n i ≡ i → Heaped f n
+  pub sunk : leastChild f n i ≡ i → Heaped f n
   sunk z = record { ordered = λ k K. at k K (ℕ-discrete (parent k) i) (ℕ-discrete k 0) }
     where
       at : (k : ℕ) → k < n → Dec (parent k ≡ i) → Dec (k ≡ 0) → f (parent k) ≼ f k
@@ -149,19 +149,19 @@ module _ {f : ℕ → Entry} {n i : ℕ} (R : Sinking f n i) where
       at k K (yes e) (yes o) = rw o (upto-self (f 0) (R .numbers 0 (omega arith)))
       at k K (yes e) (no o) = rw (e, ← z) (least R .below k (omega arith) K e)
 
-  pub least-place : (leastOf f n i ≡ i → ⊥) → (i < leastOf f n i) × (leastOf f n i < n) × (parent (leastOf f n i) ≡ i)
+  pub least-place : (leastChild f n i ≡ i → ⊥) → (i < leastChild f n i) × (leastChild f n i < n) × (parent (leastChild f n i) ≡ i)
   least-place a = ⊎-elim (λ e. absurd (a e)) (λ h. h) (least R .place)
 
-  pub sink-on : {g : ℕ → Entry} → (leastOf f n i ≡ i → ⊥) → Swap f g i (leastOf f n i) → Sinking g n (leastOf f n i)
+  pub sink-on : {g : ℕ → Entry} → (leastChild f n i ≡ i → ⊥) → Swap f g i (leastChild f n i) → Sinking g n (leastChild f n i)
   sink-on {g} a S = record {
     here = rw (S .right) (R .here);
-    numbers = swap-all Number S (omega (arith, at .0, at .1)) (at .1) (R .numbers);
+    numbers = swap-all NumberGap S (omega (arith, at .0, at .1)) (at .1) (R .numbers);
     ordered = λ k K b. order k K b (ℕ-discrete k m) (ℕ-discrete k i) (ℕ-discrete (parent k) i);
     across = λ k K e M0. over k K e;
   }
     where
       m : ℕ
-      m = leastOf f n i
+      m = leastChild f n i
 
       at : (i < m) × (m < n) × (parent m ≡ i)
       at = least-place a
@@ -190,7 +190,7 @@ module _ {M N N' : List ℕ} {F G G' : List Float} {n i : ℕ} (H : Moving M F n
       let S = exchanged-swap N G i (parent i) e d (omega (arith, H .nodes)) (omega (arith, H .gaps)) (omega (arith, H .nodes)) (omega (arith, H .gaps)) in
       (move-on H I (omega arith) e d S, rise-on R I (up .0) (up .1) S)
 
-  pub sink-turn : (c : ℕ) → c ≡ leastOf (entryAt N G) n i → (c ≡ i → ⊥) → Sinking (entryAt N G) n i → N' ≡ exchanged 0 N i c → G' ≡ exchanged nan G i c → Moving M F n N' G' × Sinking (entryAt N' G') n c
+  pub sink-turn : (c : ℕ) → c ≡ leastChild (entryAt N G) n i → (c ≡ i → ⊥) → Sinking (entryAt N G) n i → N' ≡ exchanged 0 N i c → G' ≡ exchanged nan G i c → Moving M F n N' G' × Sinking (entryAt N' G') n c
   sink-turn c z a R e d =
       let at = least-place R (rw z at a) in
       let S = exchanged-swap N G i c e d (omega (arith, H .nodes)) (omega (arith, H .gaps)) (omega (arith, H .nodes)) (omega (arith, H .gaps)) in

@@ -5,17 +5,17 @@ use lib.Ieee.{lt, eq, isNan}
 use Rattle.heap.specs.declared.Entry.{Entry}
 
 -- a is taken before b
-unfoldable pub before : Entry → Entry → Bool
+unfoldable pub entryBefore : Entry → Entry → Bool
 unfolding lt eq
-before a b = lt (a .gap) (b .gap) || (eq (a .gap) (b .gap) && ltb (a .node) (b .node))
+entryBefore a b = lt (a .gap) (b .gap) || (eq (a .gap) (b .gap) && ltb (a .node) (b .node))
 
 -- the gap is no NaN
-abbrev pub Number : Entry → Type 0
-Number a = T (not (isNan (a .gap)))
+abbrev pub NumberGap : Entry → Type 0
+NumberGap a = T (not (isNan (a .gap)))
 
 infix 4 _≼_
 -- b is not before a, and both gaps are numbers
 pub record _≼_ (a b : Entry) : Type 0 where
-  pub left : Number a
-  pub right : Number b
-  pub order : T (not (before b a))
+  pub left : NumberGap a
+  pub right : NumberGap b
+  pub order : T (not (entryBefore b a))

@@ -7,8 +7,8 @@ use lib.Dec.{ltb}
 use lib.ListN.{getD, set}
 use lib.Ieee.{Float, nan}
 use Rattle.heap.specs.declared.Entry.{Entry}
-use Rattle.heap.specs.Order.{before, Number, _≼_}
-use Rattle.heap.specs.Heap.{parent, Heaped, total}
+use Rattle.heap.specs.Order.{entryBefore, NumberGap, _≼_}
+use Rattle.heap.specs.Heap.{parent, Heaped, totalWeight}
 
 -- the two lists of a heap
 pub record HeapLists : Type 0 where
@@ -24,24 +24,24 @@ exchangedIn N G i j = record { nodes = exchanged 0 N i j; gaps = exchanged nan G
 
 -- the entry at i is before its parent
 unfoldable pub rises : (ℕ → Entry) → ℕ → Bool
-unfolding before
-rises f i = ltb 0 i && before (f i) (f (parent i))
+unfolding entryBefore
+rises f i = ltb 0 i && entryBefore (f i) (f (parent i))
 
 -- b where it is among the first n and its entry is before that at a, else a
-unfoldable pub firstOf : (ℕ → Entry) → ℕ → ℕ → ℕ → ℕ
-unfolding before
-firstOf f n a b = cond (ltb b n && before (f b) (f a)) b a
+unfoldable pub earlierOf : (ℕ → Entry) → ℕ → ℕ → ℕ → ℕ
+unfolding entryBefore
+earlierOf f n a b = cond (ltb b n && entryBefore (f b) (f a)) b a
 
 -- the least of i and its children
-unfoldable pub leastOf : (ℕ → Entry) → ℕ → ℕ → ℕ
-unfolding firstOf
-leastOf f n i = firstOf f n (firstOf f n i (2 * i + 1)) (2 * i + 2)
+unfoldable pub leastChild : (ℕ → Entry) → ℕ → ℕ → ℕ
+unfolding earlierOf
+leastChild f n i = earlierOf f n (earlierOf f n i (2 * i + 1)) (2 * i + 2)
 
 -- the first n places are a heap but for the entry at i, which may have to move: the places that are free may be before their parents,
 -- and what stands below i is not before what stands above it
 pub record Loose (free : ℕ → Type 0) (f : ℕ → Entry) (n i : ℕ) : Type 0 where
-  pub here : Number (f i)
-  pub numbers : (k : ℕ) → k < n → Number (f k)
+  pub here : NumberGap (f i)
+  pub numbers : (k : ℕ) → k < n → NumberGap (f k)
   pub ordered : (k : ℕ) → k < n → (free k → ⊥) → f (parent k) ≼ f k
   pub across : (k : ℕ) → k < n → parent k ≡ i → 0 < i → f (parent i) ≼ f k
 
@@ -56,4 +56,4 @@ Sinking f n i = Loose (λ k. parent k ≡ i) f n i
 -- g is a heap of n with the entries of f
 pub record Sifted (f : ℕ → Entry) (n : ℕ) (g : ℕ → Entry) : Type 0 where
   pub heaped : Heaped g n
-  pub contents : (w : Entry → ℕ) → total w g n ≡ total w f n
+  pub contents : (w : Entry → ℕ) → totalWeight w g n ≡ totalWeight w f n

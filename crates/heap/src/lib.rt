@@ -2,9 +2,9 @@
 ghost use mathlib.Core.Path.{_≡_};
 ghost use Prim.Native.Nat.{_+_, _<_, _≤_};
 ghost use lib.ListN.{length};
-ghost use Rattle.heap.specs.Order.{Number, before};
+ghost use Rattle.heap.specs.Order.{NumberGap, entryBefore};
 ghost use Rattle.heap.specs.Heap.{entryAt, Heaped, Pushed, Popped};
-ghost use Rattle.heap.specs.Sifts.{exchangedIn, rises, firstOf, leastOf, Rising, Sinking, Sifted};
+ghost use Rattle.heap.specs.Sifts.{exchangedIn, rises, earlierOf, leastChild, Rising, Sinking, Sifted};
 
 // A node that waits, with its gap: its distance from the point.
 pub struct Entry {
@@ -13,7 +13,7 @@ pub struct Entry {
 }
 
 fn is_before(a: Entry, b: Entry) -> bool
-    ensures { λ r. ⌜ r ≡ before a b ⌝ }
+    ensures { λ r. ⌜ r ≡ entryBefore a b ⌝ }
 {
     (a.gap < b.gap) | ((a.gap == b.gap) & (a.node < b.node))
 }
@@ -68,7 +68,7 @@ fn rise(nodes: &mut [u32], gaps: &mut [f64], last: usize)
 // b where it is among the first n and its entry is before that at a, else a.
 fn first_of(nodes: &[u32], gaps: &[f64], n: usize, a: usize, b: usize) -> usize
     requires { ⌜ ((n ≤ length (now nodes)) × (n ≤ length (now gaps))) × ((a < length (now nodes)) × (a < length (now gaps))) ⌝ }
-    ensures { λ r. ⌜ r ≡ firstOf (entryAt (now (nodes .entry)) (now (gaps .entry))) n a b ⌝ }
+    ensures { λ r. ⌜ r ≡ earlierOf (entryAt (now (nodes .entry)) (now (gaps .entry))) n a b ⌝ }
 {
     if b < n {
         if is_before(entry_at(nodes, gaps, b), entry_at(nodes, gaps, a)) {
@@ -81,7 +81,7 @@ fn first_of(nodes: &[u32], gaps: &[f64], n: usize, a: usize, b: usize) -> usize
 // The least of i and its children among the first n.
 fn least_of(nodes: &[u32], gaps: &[f64], n: usize, i: usize) -> usize
     requires { ⌜ ((n ≤ length (now nodes)) × (n ≤ length (now gaps))) × ((i < length (now nodes)) × (i < length (now gaps))) ⌝ }
-    ensures { λ r. ⌜ r ≡ leastOf (entryAt (now (nodes .entry)) (now (gaps .entry))) n i ⌝ }
+    ensures { λ r. ⌜ r ≡ leastChild (entryAt (now (nodes .entry)) (now (gaps .entry))) n i ⌝ }
 {
     if n / 2 <= i {
         return i;
@@ -106,7 +106,7 @@ fn sink(nodes: &mut [u32], gaps: &mut [f64], n: usize)
 
 // Adds an entry to a heap of n.
 pub fn push(nodes: &mut [u32], gaps: &mut [f64], n: usize, node: u32, gap: f64)
-    requires { ⌜ ((n < length (now nodes)) × (n < length (now gaps))) × (Heaped (entryAt (now nodes) (now gaps)) n × Number (record { gap = gap; node = node })) ⌝ }
+    requires { ⌜ ((n < length (now nodes)) × (n < length (now gaps))) × (Heaped (entryAt (now nodes) (now gaps)) n × NumberGap (record { gap = gap; node = node })) ⌝ }
     ensures { λ _. ⌜ Pushed (entryAt (now (nodes .entry)) (now (gaps .entry))) n (record { gap = gap; node = node }) (entryAt (now (nodes .exit)) (now (gaps .exit))) ⌝ }
 {
     nodes[n] = node;

@@ -13,10 +13,10 @@ use Rattle.number.proofs.OrderLaws.{le-level, below-through, through-below}
 use Rattle.number.proofs.Values.{held-not-nan}
 use Rattle.boundary.specs.declared.Point.{Point}
 use Rattle.boundary.specs.declared.Bounds.{Bounds}
-use Rattle.boundary.specs.Boxes.{PointOf, FiniteBox, Around, nowhere, spot}
-use Rattle.boundary.proofs.AroundLaws.{Number, NumberBox, around-nowhere, nowhere-number}
+use Rattle.boundary.specs.Boxes.{PointOf, FiniteBox, Around, emptyBox, pointBox}
+use Rattle.boundary.proofs.AroundLaws.{NotNan, NumberBox, around-nowhere, nowhere-number}
 use Rattle.lists.specs.Lists.{In}
-use Rattle.splits.specs.Tree.{hullOf, spreadOf, alongY}
+use Rattle.tree.specs.Tree.{hullOf, spreadOf, alongY}
 use Rattle.index.specs.Rust.{hullAs, spreadAs, alongYAs, SameBox}
 use Rattle.index.proofs.HullLaws.{folded, fold-within, hull-of-number, hull-of-around, hull-of-within, list-finite, hull-of-finite}
 
@@ -25,8 +25,8 @@ module _ (W : ℕ → Bounds) (is : List ℕ) (N : (i : ℕ) → In i is → Num
   around-both : Around (hullAs W is) (hullOf W is) × Around (hullOf W is) (hullAs W is)
   unfolding hullAs
   around-both =
-      let f = folded W is nowhere nowhere-number N in
-      (hull-of-within W (hullAs W is) (f .number) is (f .each), fold-within W (hullOf W is) is nowhere (around-nowhere (hullOf W is) (hull-of-number W is N)) (hull-of-around W is N))
+      let f = folded W is emptyBox nowhere-number N in
+      (hull-of-within W (hullAs W is) (f .number) is (f .each), fold-within W (hullOf W is) is emptyBox (around-nowhere (hullOf W is) (hull-of-number W is N)) (hull-of-around W is N))
 
   pub hull-same : SameBox (hullAs W is) (hullOf W is)
   hull-same =
@@ -55,9 +55,9 @@ lt-level a a′ b b′ p q r s = go (lt a b) (lt a′ b′) refl refl
 pub axis-same : (C : ℕ → Point) (is : List ℕ) → 0 < length is → ((i : ℕ) → In i is → PointOf Held (C i)) → alongYAs C is ≡ alongY C is
 unfolding alongYAs alongY spreadAs spreadOf hullAs hullOf
 axis-same C is l H =
-    let W : ℕ → Bounds = λ i. spot (C i) in
+    let W : ℕ → Bounds = λ i. pointBox (C i) in
     let F : (i : ℕ) → In i is → FiniteBox (W i) = λ i k. record { min = H i k; max = H i k } in
-    let P : (i : ℕ) → In i is → PointOf Number (C i) = λ i k. record { x = held-not-nan (H i k .x); y = held-not-nan (H i k .y) } in
+    let P : (i : ℕ) → In i is → PointOf NotNan (C i) = λ i k. record { x = held-not-nan (H i k .x); y = held-not-nan (H i k .y) } in
     let both = around-both W is (λ i k. record { min = P i k; max = P i k }) in
     let out = both .0 in
     let back = both .1 in

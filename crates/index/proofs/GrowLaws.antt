@@ -22,9 +22,9 @@ use Rattle.number.specs.Exact.{zeroᶠ}
 use Rattle.accept.specs.Answers.{Outcome}
 use Rattle.accept.specs.Refusals.{_refusing_when_}
 use Rattle.accept.proofs.TestLaws.{refusing-passed}
-use Rattle.entries.specs.Entries.{boxCount, boxNumbers, boxesOf, wideAt, centreOf}
-use Rattle.splits.specs.Tree.{Tree, leaf, hullOf, treeIn, indexOf, itemsOf}
-use Rattle.nodes.specs.Layout.{extra, nodeOf, below, nodesOf, cornersOf, linksOf, Grown}
+use Rattle.boxes.specs.BoxLists.{boxCount, boxNumbers, boxesOf, wideAt, centreOf}
+use Rattle.tree.specs.Tree.{Tree, leaf, hullOf, treeIn, indexOf, itemsOf}
+use Rattle.nodes.specs.Layout.{extra, nodeOf, nodesBelow, nodesOf, cornersOf, linksOf, Grown}
 use Rattle.boundary.specs.Boxes.{boxFits}
 use Rattle.index.specs.Buffer.{IndexBuffer, buffer, shortSizes, shortBuffer, holding, grown, cleared}
 use Rattle.index.specs.Answers.{boxesTested, buildTested, buildOutcome, buildFieldsOf, buildCall, Accepted}
@@ -33,7 +33,7 @@ use Rattle.index.specs.declared.Built.{Built}
 use Rattle.index.specs.declared.Built.the-variants.{Refused, Sized}
 use Rattle.lists.proofs.StoreLaws.{sets-front, flat-length}
 use Rattle.lists.proofs.RunLaws.{length-run}
-use Rattle.entries.proofs.EntryLaws.{wide-held, centres-held}
+use Rattle.boxes.proofs.EntryLaws.{wide-held, centres-held}
 use Rattle.nodes.proofs.TreeLaws.{tree-leaf, length-items, nodes-suffice}
 use Rattle.nodes.proofs.LayoutLaws.{length-below, placed-front}
 use Rattle.lists.proofs.FrontLaws.{front-front}
@@ -116,7 +116,7 @@ module _ (v : List Float) where
         let t : Grown (indexOf v) 0 0 1 C L r Z C′ L′ = rw (take-at is₁ (drop n is₀) n m, f, held-tree) at g in
         let k = index-nodes small in
         let free : r ≡ 1 + extra (indexOf v) = t .free in
-        let below = length-below (indexOf v) 0 1 in
+        let nodesBelow = length-below (indexOf v) 0 1 in
         left-by (omega arith) (same-buffer
         (t .corners ∙ placed-front cornersOf 4 (λ _. refl) (indexOf v) C (omega arith))
         (t .links ∙ placed-front linksOf 2 (λ _. refl) (indexOf v) L (omega arith))
@@ -125,7 +125,7 @@ module _ (v : List Float) where
 -- a leaf, put
 leaf-put : (b : Bounds) (is : List ℕ) (C C′ : List Float) (L L′ I I′ : List ℕ) → 4 ≤ length C → 2 ≤ length L → C′ ≡ sets C 0 (boxNumbers b) → L′ ≡ sets L 0 (0 ∷ length is ∷ []) → I′ ≡ is ++ drop (length is) I
     → record { answer = 1; lent = buffer C′ L′ I′ } ≡ grown (leaf b is) (buffer C L I)
-unfolding grown holding atFront nodesOf nodeOf below itemsOf flatMap
+unfolding grown holding atFront nodesOf nodeOf nodesBelow itemsOf flatMap
 leaf-put b is C C′ L L′ I I′ c l ec el ei = left-by refl (same-buffer (ec ∙ sets-front C (boxNumbers b) c) (el ∙ sets-front L (0 ∷ length is ∷ []) l) ei)
 
 -- four boxes at most are one leaf
@@ -178,10 +178,10 @@ accepted-of v c l i e p =
     let t = or-none (ltb l 1022) (ltb i 1024) (s .1) in
     record { size = b .size; whole = b .whole; corners = ltb-false c 2044 (s .0); links = ltb-false l 1022 (t .0); items = ltb-false i 1024 (t .1) }
 
-pub accepted : (v : List Float) (B : IndexBuffer) {t : Test} → t ≡ buildTested v B → t ≡ Passed
+pub accepted-sizes : (v : List Float) (B : IndexBuffer) {t : Test} → t ≡ buildTested v B → t ≡ Passed
     → Accepted v (length (B .corners)) (length (B .links)) (length (B .items))
 unfolding buildTested
-accepted v B tested e =
+accepted-sizes v B tested e =
     let p = refusing-passed (boxesTested v) ShortBuffer (shortBuffer B) (sym tested ∙ e) in
     accepted-of v (length (B .corners)) (length (B .links)) (length (B .items)) (p .1) (p .0)
 

@@ -14,13 +14,13 @@ use Rattle.number.proofs.OrderLaws.{finite-between, max-one-of}
 use Rattle.number.proofs.Values.{add-not-nan, sub-not-nan, mul-not-nan, abs-finite}
 use Rattle.boundary.specs.declared.Bounds.{Bounds}
 use Rattle.number.specs.Exact.{Held, one}
-use Rattle.boundary.specs.Boxes.{FiniteBox, Around, limit, inField, boxFits, hull, nowhere, nano, scaleOf, widenedOf}
+use Rattle.boundary.specs.Boxes.{FiniteBox, Around, limit, inField, boxFits, hull, emptyBox, nano, scaleOf, widenedOf}
 use Rattle.lists.specs.Lists.{fold, times, In}
 use Rattle.number.proofs.Basics.{one-of}
-use Rattle.boundary.proofs.AroundLaws.{Number, NumberBox, around-self, around-through, hull-number, hull-around, hull-within, around-nowhere, nowhere-number}
+use Rattle.boundary.proofs.AroundLaws.{NotNan, NumberBox, around-self, around-through, hull-number, hull-around, hull-within, around-nowhere, nowhere-number}
 use Rattle.sorts.specs.Sort.{sort}
 use Rattle.sorts.proofs.SortLaws.{length-sort, times-sort}
-use Rattle.splits.specs.Tree.{hullOf}
+use Rattle.tree.specs.Tree.{hullOf}
 use Rattle.lists.proofs.MemberLaws.{in-cons, in-first, in-rest}
 
 -- ---- widened boxes
@@ -46,7 +46,7 @@ fits-wide b h =
     let s₃ = maxOf s₂ (absOf (b .max .x)) in
     let scale : T (finite (scaleOf b)) = grow-finite s₃ (b .max .y) (grow-finite s₂ (b .max .x) (grow-finite s₁ (b .min .y) (grow-finite one (b .min .x) tt left) bottom) right) top in
     let w = mul binary64 nano (scaleOf b) in
-    let m : Number w = mul-not-nan nano (scaleOf b) tt scale in
+    let m : NotNan w = mul-not-nan nano (scaleOf b) tt scale in
     record {
       min = record { x = sub-not-nan (b .min .x) w left m; y = sub-not-nan (b .min .y) w bottom m };
       max = record { x = add-not-nan (b .max .x) w right m; y = add-not-nan (b .max .y) w top m };
@@ -54,22 +54,22 @@ fits-wide b h =
 
 -- ---- the box around the items' boxes
 module _ (W : ℕ → Bounds) where
-  abbrev pub step : Bounds → ℕ → Bounds
-  step b i = hull b (W i)
+  abbrev pub hullStep : Bounds → ℕ → Bounds
+  hullStep b i = hull b (W i)
 
   pub record Folded (b : Bounds) (is : List ℕ) (h : Bounds) : Type 0 where
     pub number : NumberBox h
     pub start : Around h b
     pub each : (i : ℕ) → In i is → Around h (W i)
 
-  pub folded : (is : List ℕ) (b : Bounds) → NumberBox b → ((i : ℕ) → In i is → NumberBox (W i)) → Folded b is (fold step b is)
+  pub folded : (is : List ℕ) (b : Bounds) → NumberBox b → ((i : ℕ) → In i is → NumberBox (W i)) → Folded b is (fold hullStep b is)
   unfolding fold times
   folded [] b B N = record { number = B; start = around-self b B; each = λ i h. absurd (omega arith) }
   folded (x ∷ xs) b B N =
       let X = N x (in-first x xs) in
       let two = hull-around b (W x) B X in
       let f = folded xs (hull b (W x)) (hull-number b (W x) B X) (λ i h. N i (in-rest i x xs h)) in
-      let h = fold step (hull b (W x)) xs in
+      let h = fold hullStep (hull b (W x)) xs in
       record {
         number = f .number;
         start = around-through h (hull b (W x)) b (f .start) (two .0);
@@ -79,14 +79,14 @@ module _ (W : ℕ → Bounds) where
   module _ (is : List ℕ) (N : (i : ℕ) → In i is → NumberBox (W i)) where
     pub hull-of-number : NumberBox (hullOf W is)
     unfolding hullOf
-    hull-of-number = folded (sort leb is) nowhere nowhere-number (λ i h. N i (rw (times-sort leb i is) at h)) .number
+    hull-of-number = folded (sort leb is) emptyBox nowhere-number (λ i h. N i (rw (times-sort leb i is) at h)) .number
 
     -- it is around each
     pub hull-of-around : (i : ℕ) → In i is → Around (hullOf W is) (W i)
     unfolding hullOf
-    hull-of-around i h = folded (sort leb is) nowhere nowhere-number (λ i h. N i (rw (times-sort leb i is) at h)) .each i (rw (times-sort leb i is) h)
+    hull-of-around i h = folded (sort leb is) emptyBox nowhere-number (λ i h. N i (rw (times-sort leb i is) at h)) .each i (rw (times-sort leb i is) h)
 
-  pub fold-within : (n : Bounds) (is : List ℕ) (b : Bounds) → Around n b → ((i : ℕ) → In i is → Around n (W i)) → Around n (fold step b is)
+  pub fold-within : (n : Bounds) (is : List ℕ) (b : Bounds) → Around n b → ((i : ℕ) → In i is → Around n (W i)) → Around n (fold hullStep b is)
   unfolding fold
   fold-within n [] b p q = p
   fold-within n (x ∷ xs) b p q = fold-within n xs (hull b (W x)) (hull-within n b (W x) p (q x (in-first x xs))) (λ i h. q i (in-rest i x xs h))
@@ -94,7 +94,7 @@ module _ (W : ℕ → Bounds) where
   -- what is around each is around it
   pub hull-of-within : (n : Bounds) → NumberBox n → (is : List ℕ) → ((i : ℕ) → In i is → Around n (W i)) → Around n (hullOf W is)
   unfolding hullOf
-  hull-of-within n N is q = fold-within n (sort leb is) nowhere (around-nowhere n N) (λ i h. q i (rw (times-sort leb i is) at h))
+  hull-of-within n N is q = fold-within n (sort leb is) emptyBox (around-nowhere n N) (λ i h. q i (rw (times-sort leb i is) at h))
 
 -- ---- the box around finite boxes is finite
 above-low : (x : Float) → T (finite x) → lt (inf true) x ≡ true
@@ -109,7 +109,7 @@ below-high nan h = absurd h
 below-high (inf s) h = absurd h
 below-high (fin s m e) h = refl
 
-hull-first : (b : Bounds) → FiniteBox b → hull nowhere b ≡ b
+hull-first : (b : Bounds) → FiniteBox b → hull emptyBox b ≡ b
 unfolding hull
 hull-first b B = rw (below-high (b .min .x) (B .min .x .finite), below-high (b .min .y) (B .min .y .finite), above-low (b .max .x) (B .max .x .finite), above-low (b .max .y) (B .max .y .finite))
 
@@ -126,7 +126,7 @@ module _ (W : ℕ → Bounds) where
   fold-finite [] b B F = B
   fold-finite (x ∷ xs) b B F = fold-finite xs (hull b (W x)) (hull-finite b (W x) B (F x (in-first x xs))) (λ i h. F i (in-rest i x xs h))
 
-  pub list-finite : (is : List ℕ) → 0 < length is → ((i : ℕ) → In i is → FiniteBox (W i)) → FiniteBox (fold (λ b i. hull b (W i)) nowhere is)
+  pub list-finite : (is : List ℕ) → 0 < length is → ((i : ℕ) → In i is → FiniteBox (W i)) → FiniteBox (fold (λ b i. hull b (W i)) emptyBox is)
   unfolding fold
   list-finite [] l F = absurd (omega arith)
   list-finite (x ∷ xs) l F = let X = F x (in-first x xs) in rw (hull-first (W x) X) (fold-finite xs (W x) X (λ i h. F i (in-rest i x xs h)))

@@ -5,7 +5,7 @@ pub mod GrowLaws
 -- The box around boxes.
 pub mod HullLaws
 -- What holds of every index.
-pub mod Theorems
+pub mod IndexCovers
 -- What the build leaves holds the tree.
 pub mod ReadLaws
 -- The order of a node's entries does not show in its box, nor in the axis.

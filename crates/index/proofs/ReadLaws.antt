@@ -13,9 +13,9 @@ use Rattle.boundary.specs.declared.Bounds.{Bounds}
 use Rattle.lists.specs.Lists.{run, atFront}
 use Rattle.sorts.proofs.SortLaws.{length-sort}
 use Rattle.nodes.specs.declared.Node.{Node}
-use Rattle.entries.specs.Entries.{boxAt}
-use Rattle.splits.specs.Tree.{Tree, leaf, inner, hullOf, treeOf, itemsOf}
-use Rattle.nodes.specs.Layout.{extra, nodeOf, below, nodesOf, cornersOf, linksOf, itemAt, firstAt, countAt}
+use Rattle.boxes.specs.BoxLists.{boxAt}
+use Rattle.tree.specs.Tree.{Tree, leaf, inner, hullOf, treeOf, itemsOf}
+use Rattle.nodes.specs.Layout.{extra, nodeOf, nodesBelow, nodesOf, cornersOf, linksOf, itemAt, firstAt, countAt}
 use Rattle.index.specs.Buffer.{IndexBuffer, holding, Stands, levels, Filled}
 use Rattle.lists.proofs.StoreLaws.{flat-at}
 use Rattle.lists.proofs.RunLaws.{length-run, run-at}
@@ -42,9 +42,9 @@ module _ (B : List Float) (L I : List ℕ) where
   same m k x y e f s = rw (e, f) at s
 
   -- the tree t stands at node n, the nodes below it from `next` on, and its items from `at` on
-  pub record Holds (t : Tree) (at n next : ℕ) : Type 0 where
+  pub record HoldsTree (t : Tree) (at n next : ℕ) : Type 0 where
     pub own : NodeIs n (nodeOf t at next)
-    pub rest : (j : ℕ) → j < extra t → NodeIs (next + j) (getD (below t at next) j (nodeOf t at next))
+    pub rest : (j : ℕ) → j < extra t → NodeIs (next + j) (getD (nodesBelow t at next) j (nodeOf t at next))
     pub items : run (itemAt I) at (length (itemsOf t)) ≡ itemsOf t
 
   -- a run that is two lists is the one, then the other
@@ -59,32 +59,32 @@ module _ (B : List Float) (L I : List ℕ) where
       (ap₂ (λ (u : ℕ) (l : List ℕ). u ∷ l) h (p .0), ap (λ (m : ℕ). run (itemAt I) m (length ys)) (sym k) ∙ p .1)
 
   -- ---- the children
-  module _ (b : Bounds) (l r : Tree) (at n next : ℕ) (h : Holds (inner b l r) at n next) where
+  module _ (b : Bounds) (l r : Tree) (at n next : ℕ) (h : HoldsTree (inner b l r) at n next) where
     abbrev second : ℕ
     second = at + length (itemsOf l)
 
     abbrev free : ℕ
     free = next + 2 + extra l
 
-    pub holds-first : Holds l at next (next + 2)
-    unfolding below extra itemsOf
+    pub holds-first : HoldsTree l at next (next + 2)
+    unfolding nodesBelow extra itemsOf
     holds-first = record {
       own = same (next + 0) next _ (nodeOf l at (next + 2)) (omega arith) refl (h .rest 0 (omega arith));
       rest = λ j k.
-          same (next + suc (suc j)) (next + 2 + j) _ (getD (below l at (next + 2)) j (nodeOf l at (next + 2))) (omega arith)
-          (List·getD-append (below l at (next + 2)) (below r second free) _ j (rw (length-below l at (next + 2)) k) ∙ getD-default (below l at (next + 2)) j _ _ (rw (length-below l at (next + 2)) k))
+          same (next + suc (suc j)) (next + 2 + j) _ (getD (nodesBelow l at (next + 2)) j (nodeOf l at (next + 2))) (omega arith)
+          (List·getD-append (nodesBelow l at (next + 2)) (nodesBelow r second free) _ j (rw (length-below l at (next + 2)) k) ∙ getD-default (nodesBelow l at (next + 2)) j _ _ (rw (length-below l at (next + 2)) k))
           (h .rest (suc (suc j)) (omega arith));
       items = two-runs at (itemsOf l) (itemsOf r) (h .items) .0;
     }
 
-    pub holds-second : Holds r second (next + 1) free
-    unfolding below extra itemsOf
+    pub holds-second : HoldsTree r second (next + 1) free
+    unfolding nodesBelow extra itemsOf
     holds-second = record {
       own = same (next + 1) (next + 1) _ (nodeOf r second free) refl refl (h .rest 1 (omega arith));
       rest = λ j k.
           let n = length-below l at (next + 2) in
-          same (next + suc (suc (extra l + j))) (free + j) _ (getD (below r second free) j (nodeOf r second free)) (omega arith)
-          (ap (λ (m : ℕ). getD (below l at (next + 2) ++ below r second free) (m + j) (nodeOf (inner b l r) at next)) (sym n) ∙ getD-append-add (below l at (next + 2)) (below r second free) j _ ∙ getD-default (below r second free) j _ _ (rw (length-below r second free) k))
+          same (next + suc (suc (extra l + j))) (free + j) _ (getD (nodesBelow r second free) j (nodeOf r second free)) (omega arith)
+          (ap (λ (m : ℕ). getD (nodesBelow l at (next + 2) ++ nodesBelow r second free) (m + j) (nodeOf (inner b l r) at next)) (sym n) ∙ getD-append-add (nodesBelow l at (next + 2)) (nodesBelow r second free) j _ ∙ getD-default (nodesBelow r second free) j _ _ (rw (length-below r second free) k))
           (h .rest (suc (suc (extra l + j))) (omega arith));
       items = two-runs at (itemsOf l) (itemsOf r) (h .items) .1;
     }
@@ -113,10 +113,10 @@ run-front xs rest =
     (λ i h. let l : i < length xs = rw n at h in let z : 0 + i ≡ i = omega arith in run-at (itemAt (xs ++ rest)) 0 (length xs) i 0 l ∙ ap (itemAt (xs ++ rest)) z ∙ List·getD-append xs rest 0 i l)
 
 -- THE BUFFER holds the tree
-pub stored-holds : (t : Tree) (C : List Float) (L is : List ℕ) → Holds (atFront (flatMap cornersOf (nodesOf t)) C) (atFront (flatMap linksOf (nodesOf t)) L) (atFront (itemsOf t) is) t 0 0 1
+pub stored-holds : (t : Tree) (C : List Float) (L is : List ℕ) → HoldsTree (atFront (flatMap cornersOf (nodesOf t)) C) (atFront (flatMap linksOf (nodesOf t)) L) (atFront (itemsOf t) is) t 0 0 1
 unfolding atFront nodesOf
 stored-holds t C L is =
-    let N = nodeOf t 0 1 ∷ below t 0 1 in
+    let N = nodeOf t 0 1 ∷ nodesBelow t 0 1 in
     let n = length-below t 0 1 in
     let at = node-is N (drop (length (flatMap cornersOf N)) C) (drop (length (flatMap linksOf N)) L) (nodeOf t 0 1) (itemsOf t ++ drop (length (itemsOf t)) is) in
     record {
@@ -126,7 +126,7 @@ stored-holds t C L is =
     }
 
 -- a tree that is held so, of which each leaf has an item, stands there
-holds-stands : (B : IndexBuffer) (t : Tree) (at n next : ℕ) → Holds (B .corners) (B .links) (B .items) t at n next → Filled t → next + extra t ≤ 511
+holds-stands : (B : IndexBuffer) (t : Tree) (at n next : ℕ) → HoldsTree (B .corners) (B .links) (B .items) t at n next → Filled t → next + extra t ≤ 511
     → Stands B n t
 unfolding Stands Filled nodeOf itemsOf extra
 holds-stands B (leaf b is) at n next h f room = (h .own .box, rw (h .own .count) f, rw (h .own .first, h .own .count) (h .items))

@@ -26,17 +26,17 @@ use Rattle.boundary.proofs.FieldLaws.{field-is}
 use Rattle.boundary.proofs.BoxLaws.{widening-field}
 use Rattle.accept.specs.declared.Test.the-variants.{Passed}
 use Rattle.sorts.specs.Sort.{sort, Selected}
-use Rattle.sorts.specs.Keys.{goes}
+use Rattle.sorts.specs.Keys.{precedes}
 use Rattle.lists.proofs.MemberLaws.{times-append}
 use Rattle.sorts.proofs.SortLaws.{length-sort}
 use Rattle.sorts.proofs.SelectLaws.{selected-first, selected-rest, sort-selected}
-use Rattle.entries.specs.Entries.{boxCount, boxAt, wideAt, centreOf}
-use Rattle.splits.specs.Tree.{Tree, leaf, inner, alongY, along, ordered, treeOf, indexOf}
+use Rattle.boxes.specs.BoxLists.{boxCount, boxAt, wideAt, centreOf}
+use Rattle.tree.specs.Tree.{Tree, leaf, inner, alongY, centreAlong, ordered, treeOf, indexOf}
 use Rattle.index.specs.Answers.{boxesTested}
 use Rattle.index.specs.Rust.{hullAs, alongYAs, Builds, few, many, BuiltTree, ascended, SameTree, same-leaf, same-inner}
 use Rattle.nodes.proofs.TreeLaws.{left, right, tree-leaf, tree-split, tree-sorted}
 use Rattle.index.proofs.AnyOrder.{hull-same, axis-same}
-use Rattle.index.proofs.Theorems.{passed-fits, listed-number, numbers-below}
+use Rattle.index.proofs.IndexCovers.{passed-fits, listed-number, numbers-below}
 
 -- the members of a part are members of the list
 part-members : (m : ℕ) (is ys : List ℕ) → ((i : ℕ) → times i ys ≡ times i is) → (i : ℕ) → (In i (take m ys) → In i is) × (In i (drop m ys) → In i is)
@@ -51,15 +51,15 @@ module _ (W : ℕ → Bounds) (C : ℕ → Point) where
   tree-members : (xs ys : List ℕ) → sort leb xs ≡ sort leb ys → treeOf W C xs ≡ treeOf W C ys
   tree-members xs ys e = sym (tree-sorted W C leb xs) ∙ ap (treeOf W C) e ∙ tree-sorted W C leb ys
 
-  module _ (is ys : List ℕ) (h : 4 < length is) (s : Selected (goes (along (alongY C is) C)) (length is / 2) is ys) where
+  module _ (is ys : List ℕ) (h : 4 < length is) (s : Selected (precedes (centreAlong (alongY C is) C)) (length is / 2) is ys) where
     -- the trees over the parts that a selection leaves are those over the halves
     tree-first : treeOf W C (take (length is / 2) ys) ≡ treeOf W C (left C is)
     unfolding ordered
-    tree-first = tree-members (take (length is / 2) ys) (left C is) (selected-first (along (alongY C is) C) (length is / 2) is ys (omega arith) s)
+    tree-first = tree-members (take (length is / 2) ys) (left C is) (selected-first (centreAlong (alongY C is) C) (length is / 2) is ys (omega arith) s)
 
     tree-rest : treeOf W C (drop (length is / 2) ys) ≡ treeOf W C (right C is)
     unfolding ordered
-    tree-rest = tree-members (drop (length is / 2) ys) (right C is) (selected-rest (along (alongY C is) C) (length is / 2) is ys (omega arith) s)
+    tree-rest = tree-members (drop (length is / 2) ys) (right C is) (selected-rest (centreAlong (alongY C is) C) (length is / 2) is ys (omega arith) s)
 
   -- over entries whose boxes have no NaN and whose centres are finite
   pub builds-same : {is : List ℕ} {t : Tree} → ((i : ℕ) → In i is → NumberBox (W i)) → ((i : ℕ) → In i is → PointOf Held (C i)) → Builds W C is t → SameTree (ascended t) (treeOf W C is)
@@ -67,7 +67,7 @@ module _ (W : ℕ → Bounds) (C : ℕ → Point) where
   builds-same N H (few {is = is} h) = subst (SameTree (leaf (hullAs W is) (sort leb is))) (sym (tree-leaf W C (length is) is h)) (same-leaf (hull-same W is N))
   builds-same N H (many {is = is} {ys = ys} {l = l} {r = r} h s p q) =
       let m = length is / 2 in
-      let s′ : Selected (goes (along (alongY C is) C)) m is ys = subst (λ (y : Bool). Selected (goes (along y C)) m is ys) (axis-same C is (omega arith) H) s in
+      let s′ : Selected (precedes (centreAlong (alongY C is) C)) m is ys = subst (λ (y : Bool). Selected (precedes (centreAlong y C)) m is ys) (axis-same C is (omega arith) H) s in
       let part = part-members m is ys (s .same) in
       let P = builds-same (λ i k. N i (part i .0 k)) (λ i k. H i (part i .0 k)) p in
       let Q = builds-same (λ i k. N i (part i .1 k)) (λ i k. H i (part i .1 k)) q in
@@ -82,10 +82,10 @@ module _ (W : ℕ → Bounds) (C : ℕ → Point) where
       step f js h built false e = record { tree = leaf (hullAs W js) js; builds = few (ltb-false 4 (length js) e) }
       step f js h built true e =
           let l = ltb-true 4 (length js) e in
-          let key = along (alongYAs C js) C in
+          let key = centreAlong (alongYAs C js) C in
           let m = length js / 2 in
-          let ys = sort (goes key) js in
-          let n = length-sort (goes key) js in
+          let ys = sort (precedes key) js in
+          let n = length-sort (precedes key) js in
           let a = length-take-le m ys (omega arith) in
           let b = length-drop m ys in
           let P = built (take m ys) (omega arith) in

@@ -17,8 +17,8 @@ use Rattle.index.specs.declared.Built.{Built}
 use Rattle.index.specs.declared.Built.the-variants.{Refused, Sized}
 use Rattle.index.specs.declared.BuildFields.{BuildFields}
 use Rattle.index.specs.Buffer.{IndexBuffer, shortBuffer, holding, cornerPlaces, linkPlaces, itemPlaces}
-use Rattle.entries.specs.Entries.{boxesOf}
-use Rattle.splits.specs.Tree.{indexOf, itemsOf}
+use Rattle.boxes.specs.BoxLists.{boxesOf}
+use Rattle.tree.specs.Tree.{indexOf, itemsOf}
 use Rattle.nodes.specs.Layout.{nodesOf}
 
 -- ---- tests 4 and 11

@@ -10,8 +10,8 @@ use Rattle.number.specs.Exact.{zeroᶠ}
 use Rattle.boundary.specs.declared.Bounds.{Bounds}
 use Rattle.lists.specs.Lists.{run, atFront, zeros}
 use Rattle.accept.specs.Answers.{Outcome}
-use Rattle.entries.specs.Entries.{boxAt}
-use Rattle.splits.specs.Tree.{Tree, leaf, inner, itemsOf}
+use Rattle.boxes.specs.BoxLists.{boxAt}
+use Rattle.tree.specs.Tree.{Tree, leaf, inner, itemsOf}
 use Rattle.nodes.specs.Layout.{nodesOf, cornersOf, linksOf, itemAt, firstAt, countAt}
 
 -- the nodes' corners, four numbers each; the nodes' links, two each; the items

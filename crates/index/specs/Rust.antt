@@ -7,22 +7,22 @@ use lib.ListN.{length, take, drop}
 use lib.Ieee.{binary64, sub, lt, eq}
 use Rattle.boundary.specs.declared.Point.{Point}
 use Rattle.boundary.specs.declared.Bounds.{Bounds}
-use Rattle.boundary.specs.Boxes.{hull, nowhere, stretched}
+use Rattle.boundary.specs.Boxes.{hull, emptyBox, stretched}
 use Rattle.lists.specs.Lists.{fold}
-use Rattle.sorts.specs.Keys.{goes}
+use Rattle.sorts.specs.Keys.{precedes}
 use Rattle.sorts.specs.Sort.{sort, Selected}
-use Rattle.splits.specs.Tree.{Tree, leaf, inner, along}
+use Rattle.tree.specs.Tree.{Tree, leaf, inner, centreAlong}
 
 -- ---- what the Rust works out of a node's entries, which it goes through as they stand
 -- the box around their boxes
 unfoldable pub hullAs : (ℕ → Bounds) → List ℕ → Bounds
 unfolding fold hull
-hullAs W is = fold (λ b i. hull b (W i)) nowhere is
+hullAs W is = fold (λ b i. hull b (W i)) emptyBox is
 
 -- the box of their centres
 unfoldable pub spreadAs : (ℕ → Point) → List ℕ → Bounds
 unfolding fold hull
-spreadAs C is = fold (λ b i. stretched b (C i)) nowhere is
+spreadAs C is = fold (λ b i. stretched b (C i)) emptyBox is
 
 -- whether the centres spread wider along y; x on a tie
 unfoldable pub alongYAs : (ℕ → Point) → List ℕ → Bool
@@ -33,7 +33,7 @@ alongYAs C is = lt (sub binary64 (spreadAs C is .max .x) (spreadAs C is .min .x)
 -- At most four are a leaf with the entries in this order. More are parted by `select_nth_unstable_by` at half the count, rounded down, and each part is built over as it then stands
 pub data Builds (W : ℕ → Bounds) (C : ℕ → Point) : List ℕ → Tree → Type 0 where
   few : {is : List ℕ} → length is ≤ 4 → Builds W C is (leaf (hullAs W is) is)
-  many : {is ys : List ℕ} {l r : Tree} → 4 < length is → Selected (goes (along (alongYAs C is) C)) (length is / 2) is ys
+  many : {is ys : List ℕ} {l r : Tree} → 4 < length is → Selected (precedes (centreAlong (alongYAs C is) C)) (length is / 2) is ys
       → Builds W C (take (length is / 2) ys) l → Builds W C (drop (length is / 2) ys) r → Builds W C is (inner (hullAs W is) l r)
 
 -- a tree that it may give over them

@@ -1,7 +1,7 @@
 // The box tree (index.rs): a tree over boxes, built in lent buffers.
 pub mod answers;
+pub mod building;
 pub mod refusals;
-pub mod tree;
 
 ghost use mathlib.Core.Path.{_≡_};
 ghost use Rattle.index.specs.Buffer.{buffer};
@@ -30,7 +30,7 @@ pub fn new(boxes: &[f64], corners: &mut [f64], links: &mut [u32], items: &mut [u
     let t = refusals::build_tested(boxes, corners.len(), links.len(), items.len());
     match t {
         Test::Passed => {
-            let nodes = tree::grow_or_leaf(boxes, corners, links, items);
+            let nodes = building::grow_or_leaf(boxes, corners, links, items);
             Built::Sized(nodes as u32, (boxes.len() / 4) as u32)
         }
         Test::Failed(r) => Built::Refused(r),

@@ -3,7 +3,7 @@ ghost use mathlib.Core.Path.{_≡_};
 ghost use mathlib.Core.Bool.{not};
 ghost use Prim.Native.Nat.{_≤_};
 ghost use Rattle.lists.specs.Lists.{any};
-ghost use Rattle.entries.specs.Entries.{boxCount, boxesOf};
+ghost use Rattle.boxes.specs.BoxLists.{boxCount, boxesOf};
 ghost use Rattle.boundary.specs.Boxes.{boxFits};
 ghost use Rattle.accept.specs.declared.Refusal.the-variants.{ShortBuffer};
 ghost use Rattle.accept.specs.Refusals.{_refusing_when_};
@@ -23,7 +23,7 @@ fn any_unfit(boxes: &[f64]) -> bool
     let mut found = false;
     let mut i = 0;
     while i < n {
-        found = found | !box_fits(entries::box_at(boxes, i));
+        found = found | !box_fits(boxes::box_at(boxes, i));
         i += 1;
     }
     found

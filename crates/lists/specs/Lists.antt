@@ -24,9 +24,9 @@ unfolding fold
 any p xs = fold (λ b x. b || p x) false xs
 
 -- whether an odd number of members pass it
-unfoldable pub oddly : {A : Type 0} → (A → Bool) → List A → Bool
+unfoldable pub oddMany : {A : Type 0} → (A → Bool) → List A → Bool
 unfolding fold
-oddly p xs = fold (λ b x. unlike b (p x)) false xs
+oddMany p xs = fold (λ b x. unlike b (p x)) false xs
 
 -- the sum of f over the members: sums start at +0
 unfoldable pub total : {A : Type 0} → (A → Float) → List A → Float

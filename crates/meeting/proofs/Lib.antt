@@ -5,4 +5,4 @@ pub mod WalkLaws
 -- The walk of the buffer lists what `meeting` says.
 pub mod MeetingLaws
 -- Every box that shares a point with the cell is listed.
-pub mod Theorems
+pub mod MeetingLists

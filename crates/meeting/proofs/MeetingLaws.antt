@@ -16,19 +16,19 @@ use Rattle.boundary.specs.Boxes.{boxFits}
 use Rattle.accept.specs.Answers.{Outcome}
 use Rattle.lists.specs.Lists.{atFront}
 use Rattle.accept.specs.Refusals.{_refusing_when_}
-use Rattle.accept.specs.declared.Answer.the-variants.{Refused, Told}
+use Rattle.accept.specs.declared.Answer.the-variants.{Refused, Count}
 use Rattle.accept.specs.declared.Refusal.{Refusal}
 use Rattle.accept.specs.declared.Refusal.the-variants.{BadBox, ShortBuffer}
 use Rattle.accept.specs.declared.Test.{Test}
 use Rattle.accept.specs.declared.Test.the-variants.{Passed, Failed}
 use Rattle.accept.proofs.TestLaws.{refusing-passed}
-use Rattle.splits.specs.Tree.{Tree, leaf, inner, indexOf, itemsOf}
+use Rattle.tree.specs.Tree.{Tree, leaf, inner, indexOf, itemsOf}
 use Rattle.nodes.specs.Layout.{firstAt, countAt}
 use Rattle.index.specs.Buffer.{IndexBuffer, buffer, shortBuffer, holding, grown, cleared, Stands, levels}
 use Rattle.index.specs.Answers.{boxesTested, Accepted}
 use Rattle.lists.proofs.StoreLaws.{sets-front}
 use Rattle.index.proofs.GrowLaws.{length-index-items, accepted-of, grown-lent, holding-cleared}
-use Rattle.index.proofs.Theorems.{rootBox, Nested, nested, index-stands}
+use Rattle.index.proofs.IndexCovers.{rootBox, Nested, nested, index-stands}
 use Rattle.meeting.specs.Meeting.{apart, meetingOf, visitedOf}
 use Rattle.meeting.specs.Walk.{hits, found}
 use Rattle.meeting.specs.Answers.{MeetingLent, meetingTested, listing, meetingOutcome}
@@ -171,9 +171,9 @@ module _ (v : List Float) (c : Bounds) (B : IndexBuffer) (S : List ℕ) where
 
   -- what every call leaves
   pub met : {t : Test} {r : ℕ} {M : MeetingLent} → t ≡ meetingTested v c B S → t ≡ Passed → record { answer = r; lent = M } ≡ listing v c B S
-      → record { answer = Told r; lent = M } ≡ meetingOutcome v c B S
+      → record { answer = Count r; lent = M } ≡ meetingOutcome v c B S
   unfolding meetingOutcome
-  met tested e l = rw (← tested, e) (ap (λ (o : Outcome ℕ MeetingLent). record { answer = Told (o .answer); lent = o .lent }) l)
+  met tested e l = rw (← tested, e) (ap (λ (o : Outcome ℕ MeetingLent). record { answer = Count (o .answer); lent = o .lent }) l)
 
   pub meeting-refused : {t : Test} {r : Refusal} → t ≡ meetingTested v c B S → t ≡ Failed r
       → record { answer = Refused r; lent = record { buffer = B; list = S } } ≡ meetingOutcome v c B S

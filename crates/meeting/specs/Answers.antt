@@ -9,13 +9,13 @@ use Rattle.boundary.specs.declared.Bounds.{Bounds}
 use Rattle.boundary.specs.Boxes.{boxFits}
 use Rattle.accept.specs.declared.Answer.{Answer}
 use Rattle.accept.specs.declared.CountFields.{CountFields}
-use Rattle.accept.specs.declared.Answer.the-variants.{Refused, Told}
+use Rattle.accept.specs.declared.Answer.the-variants.{Refused, Count}
 use Rattle.accept.specs.declared.Refusal.the-variants.{BadBox, ShortBuffer}
 use Rattle.accept.specs.declared.Test.{Test}
 use Rattle.accept.specs.Answers.{Outcome, countFields, inFields}
 use Rattle.lists.specs.Lists.{atFront}
 use Rattle.accept.specs.Refusals.{given, _refusing_when_}
-use Rattle.splits.specs.Tree.{indexOf}
+use Rattle.tree.specs.Tree.{indexOf}
 use Rattle.index.specs.Buffer.{IndexBuffer, shortBuffer, cleared}
 use Rattle.index.specs.Answers.{boxesTested}
 use Rattle.meeting.specs.Meeting.{meetingOf}
@@ -45,7 +45,7 @@ listing v c B S = record {
 unfoldable pub meetingOutcome : List Float → Bounds → IndexBuffer → List ℕ → Outcome Answer MeetingLent
 unfolding meetingTested given listing
 meetingOutcome v c B S = given (meetingTested v c B S)
-    (record { answer = Told (listing v c B S .answer); lent = listing v c B S .lent })
+    (record { answer = Count (listing v c B S .answer); lent = listing v c B S .lent })
     (λ r. record { answer = Refused r; lent = record { buffer = B; list = S } })
 
 -- the same, with the answer in its fields

@@ -4,7 +4,7 @@ use mathlib.Core.List.{List, [], _++_}
 use Prim.Native.Nat.{ℕ}
 use lib.Ieee.{lt}
 use Rattle.boundary.specs.declared.Bounds.{Bounds}
-use Rattle.splits.specs.Tree.{Tree, leaf, inner}
+use Rattle.tree.specs.Tree.{Tree, leaf, inner}
 
 -- the box b and the cell c share no point
 unfoldable pub apart : Bounds → Bounds → Bool

@@ -8,7 +8,7 @@ use lib.Seq.{sets}
 use Rattle.boundary.specs.declared.Bounds.{Bounds}
 use Rattle.lists.specs.Lists.{run}
 use Rattle.accept.specs.Answers.{Outcome}
-use Rattle.entries.specs.Entries.{boxAt}
+use Rattle.boxes.specs.BoxLists.{boxAt}
 use Rattle.nodes.specs.Layout.{firstAt, countAt}
 use Rattle.index.specs.Buffer.{IndexBuffer, nodeBox, leafItems}
 use Rattle.meeting.specs.Meeting.{apart}

@@ -10,7 +10,7 @@ ghost use Rattle.lists.specs.Lists.{run};
 ghost use Rattle.accept.specs.declared.Refusal.the-variants.{BadBox, ShortBuffer};
 ghost use Rattle.accept.specs.declared.Test.the-variants.{Passed};
 ghost use Rattle.accept.specs.Refusals.{_refusing_when_};
-ghost use Rattle.entries.specs.Entries.{boxAt};
+ghost use Rattle.boxes.specs.BoxLists.{boxAt};
 ghost use Rattle.nodes.specs.Layout.{itemAt};
 ghost use Rattle.index.specs.Buffer.{buffer, shortSizes};
 ghost use Rattle.index.specs.Answers.{boxesTested, Accepted};
@@ -23,9 +23,9 @@ use accept::Test;
 use accept::refusals::box_fits;
 use accept::refusals::refusing;
 use boundary::Bounds;
+use index::building;
 use index::refusals::boxes_tested;
 use index::refusals::short_index;
-use index::tree;
 
 // Stores x at k, where there is room, and gives the next place.
 fn push(list: &mut [u32], k: usize, x: u32) -> usize
@@ -55,7 +55,7 @@ fn misses(corners: &[f64], n: usize, c: Bounds) -> bool
     requires { ⌜ n ≤ 2 ^ 32 ⌝ }
     ensures { λ r. ⌜ r ≡ apart (boxAt (now (corners .entry)) n) c ⌝ }
 {
-    let b = entries::box_at(corners, n);
+    let b = boxes::box_at(corners, n);
     (c.max.x < b.min.x) | ((b.max.x < c.min.x) | ((c.max.y < b.min.y) | (b.max.y < c.min.y)))
 }
 
@@ -126,9 +126,17 @@ pub fn listed(
     }
         ≡ listing (now (boxes .entry)) c (buffer (now (corners .entry)) (now (links .entry)) (now (items .entry))) (now (list .entry)) ⌝ }
 {
-    tree::grow_or_leaf(boxes, corners, links, items);
-    let count = walk(boxes.len(), tree::LEVELS, corners, links, items, c, list);
-    tree::clear(corners, links, items);
+    building::grow_or_leaf(boxes, corners, links, items);
+    let count = walk(
+        boxes.len(),
+        building::LEVELS,
+        corners,
+        links,
+        items,
+        c,
+        list,
+    );
+    building::clear(corners, links, items);
     count
 }
 
@@ -171,7 +179,7 @@ pub fn meeting(
         list.len(),
     );
     match t {
-        Test::Passed => Answer::Told(listed(boxes, c, corners, links, items, list) as u32),
+        Test::Passed => Answer::Count(listed(boxes, c, corners, links, items, list) as u32),
         Test::Failed(r) => Answer::Refused(r),
     }
 }

@@ -6,10 +6,10 @@ use native.Mathlib.Omega.{arith}
 use lib.ListN.{length, take, drop}
 use lib.Seq.{sets}
 use lib.Ieee.{Float}
-use Rattle.splits.specs.Tree.{indexOf}
+use Rattle.tree.specs.Tree.{indexOf}
 use Rattle.index.specs.Buffer.{IndexBuffer, holding, grown, cleared}
 use Rattle.index.proofs.GrowLaws.{grown-lent, holding-cleared}
-use Rattle.index.proofs.Theorems.{index-stands}
+use Rattle.index.proofs.IndexCovers.{index-stands}
 use Rattle.number.specs.Exact.{Doubles}
 use Rattle.set.specs.Set.{Outline, outlinesOf, setBoxes}
 use Rattle.set.specs.Answers.{Ready}

@@ -3,6 +3,6 @@
 -- What the query has and leaves.
 pub mod FoundLaws
 -- What the nearest answer is.
-pub mod Theorems
+pub mod NearestLeast
 -- The Rust's walk gives the nearest answer.
 pub mod RustLaws

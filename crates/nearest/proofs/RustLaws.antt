@@ -18,9 +18,9 @@ use Rattle.boundary.specs.Boxes.{FieldPoint, gapOf}
 use Rattle.lists.specs.Lists.{fold, times, In}
 use Rattle.sorts.specs.Keys.{totalLess}
 use Rattle.lists.proofs.MemberLaws.{times-append, in-cons, in-first, in-rest}
-use Rattle.splits.specs.Tree.{Tree, leaf, inner, indexOf, itemsOf, EachNode}
+use Rattle.tree.specs.Tree.{Tree, leaf, inner, indexOf, itemsOf, EachNode}
 use Rattle.nodes.specs.Layout.{extra}
-use Rattle.boundary.proofs.AroundLaws.{Number}
+use Rattle.boundary.proofs.AroundLaws.{NotNan}
 use Rattle.set.specs.Set.{Outline, setBoxes, Fitting, DoubleSet}
 use Rattle.search.specs.declared.Best.{Best}
 use Rattle.search.specs.Least.{magnitudeAt, leastOf, leastIn}
@@ -74,11 +74,11 @@ or-false : (a b : Bool) → (a || b) ≡ false → a ≡ false
 or-false false b e = refl
 or-false true b e = absurd (subst T e tt)
 
-not-totally : (x y : Float) → Number x → Number y → totalLess x y ≡ false → T (le y x)
+not-totally : (x y : Float) → NotNan x → NotNan y → totalLess x y ≡ false → T (le y x)
 unfolding totalLess
 not-totally x y X Y e = not-below x y X Y (or-false (lt x y) _ e)
 
-totally-le : (x y : Float) → Number x → Number y → totalLess x y ≡ true → T (le x y)
+totally-le : (x y : Float) → NotNan x → NotNan y → totalLess x y ≡ true → T (le x y)
 unfolding totalLess
 totally-le x y X Y h = go (lt x y) refl (eq x y) refl (isNan y) refl (isNan x) h
   where
@@ -89,7 +89,7 @@ totally-le x y X Y h = go (lt x y) refl (eq x y) refl (isNan y) refl (isNan x) h
     go false e false f false g true h = absurd (subst T (sym h) tt)
     go false e false f false g false h = absurd (subst T (sym h) tt)
 
-sooner-le : (a b : Waiting) → Number (a .gap) → Number (b .gap) → sooner a b ≡ true → T (le (a .gap) (b .gap))
+sooner-le : (a b : Waiting) → NotNan (a .gap) → NotNan (b .gap) → sooner a b ≡ true → T (le (a .gap) (b .gap))
 sooner-le a b A B h = go (totalLess (a .gap) (b .gap)) refl (totalLess (b .gap) (a .gap)) refl h
   where
     go : (s : Bool) → totalLess (a .gap) (b .gap) ≡ s → (t : Bool) → totalLess (b .gap) (a .gap) ≡ t → (s || (not t && ltb (a .node) (b .node))) ≡ true → T (le (a .gap) (b .gap))
@@ -97,7 +97,7 @@ sooner-le a b A B h = go (totalLess (a .gap) (b .gap)) refl (totalLess (b .gap) 
     go false e true f h = absurd (subst T (sym h) tt)
     go false e false f h = not-totally (b .gap) (a .gap) B A f
 
-sooner-not : (a b : Waiting) → Number (a .gap) → Number (b .gap) → sooner a b ≡ false → T (le (b .gap) (a .gap))
+sooner-not : (a b : Waiting) → NotNan (a .gap) → NotNan (b .gap) → sooner a b ≡ false → T (le (b .gap) (a .gap))
 sooner-not a b A B h = not-totally (a .gap) (b .gap) A B (or-false (totalLess (a .gap) (b .gap)) _ h)
 
 record OutIs (P : Waiting → Type 0) (x : Waiting) (xs : List Waiting) (o : Out) : Type 0 where
@@ -106,7 +106,7 @@ record OutIs (P : Waiting → Type 0) (x : Waiting) (xs : List Waiting) (o : Out
   least : All (λ y. T (le (o .first .gap) (y .gap))) (o .rest)
   sums : (w : Waiting → ℕ) → w (o .first) + sum w (o .rest) ≡ w x + sum w xs
 
-out-is : (P : Waiting → Type 0) → ((y : Waiting) → P y → Number (y .gap)) → (x : Waiting) (xs : List Waiting) → P x → All P xs → OutIs P x xs (leastOut x xs)
+out-is : (P : Waiting → Type 0) → ((y : Waiting) → P y → NotNan (y .gap)) → (x : Waiting) (xs : List Waiting) → P x → All P xs → OutIs P x xs (leastOut x xs)
 unfolding leastOut sum
 out-is P N x [] p none = record { first = p; rest = none; least = none; sums = λ w. refl }
 out-is P N x (y ∷ ys) p (more q qs) = go (leastOut y ys) (out-is P N y ys q qs) (sooner (leastOut y ys .first) x) refl
@@ -144,7 +144,7 @@ module _ (D : ℕ → Float) (n : ℕ) (p : Point) where
     gap : x .gap ≡ gapOf (boxIn (x .tree)) p
     near : EachNode (Nearby D n p) (x .tree)
 
-  good-number : (x : Waiting) → Good x → Number (x .gap)
+  good-number : (x : Waiting) → Good x → NotNan (x .gap)
   good-number x g = rw (g .gap) (gap-number (boxIn (x .tree)) p)
 
   good-gap : (x : Waiting) → Good x → (i : ℕ) → 0 < hasOf i x → Gapped D n p (boxIn (x .tree)) i
@@ -170,8 +170,8 @@ module _ (D : ℕ → Float) (n : ℕ) (p : Point) where
     state : State best
     cover : (i : ℕ) → i < n → sum (hasOf i) ws ≡ 0 → Seen best i
 
-  module _ (some : 0 < n) (N : (k : ℕ) → k < n → Number (D k)) where
-    numbers : (k : ℕ) → k ≤ n - 1 → Number (D k)
+  module _ (some : 0 < n) (N : (k : ℕ) → k < n → NotNan (D k)) where
+    numbers : (k : ℕ) → k ≤ n - 1 → NotNan (D k)
     numbers k l = N k (omega arith)
 
     -- ---- a leaf's items

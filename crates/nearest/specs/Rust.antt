@@ -10,7 +10,7 @@ use Rattle.boundary.specs.declared.Bounds.{Bounds}
 use Rattle.boundary.specs.Boxes.{gapOf}
 use Rattle.lists.specs.Lists.{fold}
 use Rattle.sorts.specs.Keys.{totalLess}
-use Rattle.splits.specs.Tree.{Tree, leaf, inner, indexOf}
+use Rattle.tree.specs.Tree.{Tree, leaf, inner, indexOf}
 use Rattle.nodes.specs.Layout.{extra}
 use Rattle.set.specs.Set.{Outline, setBoxes}
 use Rattle.search.specs.Least.{magnitudeOf, magnitudeAt}

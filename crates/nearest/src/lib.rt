@@ -56,9 +56,9 @@ fn found_in(
     outlines::put_boxes(v, counts, boxes);
     outlines::put_starts(counts, starts);
     let b = &boxes[..];
-    index::tree::grow(&b[0..n], corners, links, items);
+    index::building::grow(&b[0..n], corners, links, items);
     let best = search::search(v, counts, starts, p, corners, links, items);
-    index::tree::clear(corners, links, items);
+    index::building::clear(corners, links, items);
     best
 }
 
@@ -133,7 +133,7 @@ fn answered(
         ≡ worked (nearestIn (outlinesOf (now (v .entry)) (now (counts .entry))) p) (buffer (now (corners .entry)) (now (links .entry)) (now (items .entry))) ⌝ }
 {
     if counts.len() == 0 {
-        index::tree::clear(corners, links, items);
+        index::building::clear(corners, links, items);
         return Nearest::None;
     }
     Nearest::At(found(v, counts, p, corners, links, items))

@@ -11,13 +11,13 @@ use borrow.Author.Tests.{lt-ltb, le-ltb}
 use Rattle.boundary.specs.declared.Point.{Point}
 use Rattle.boundary.specs.declared.Bounds.{Bounds}
 use Rattle.sorts.specs.Sort.{sort, Sorted, halves}
-use Rattle.sorts.specs.Keys.{goes}
+use Rattle.sorts.specs.Keys.{precedes}
 use Rattle.sorts.proofs.Lists.{rest-of, whole-of}
 use Rattle.sorts.proofs.SortLaws.{length-sort}
 use Rattle.sorts.proofs.PartLaws.{ascending}
-use Rattle.entries.specs.Entries.{boxNumbers}
-use Rattle.splits.specs.Tree.{inner, hullOf, alongY, along, ordered, arranged, treeOf, itemsOf}
-use Rattle.nodes.specs.Layout.{extra, nodeOf, below, cornersOf, linksOf, placed, Settled, Grown}
+use Rattle.boxes.specs.BoxLists.{boxNumbers}
+use Rattle.tree.specs.Tree.{inner, hullOf, alongY, centreAlong, ordered, arranged, treeOf, itemsOf}
+use Rattle.nodes.specs.Layout.{extra, nodeOf, nodesBelow, cornersOf, linksOf, placed, Settled, Grown}
 use Rattle.nodes.proofs.TreeLaws.{left, right, length-left, length-right, tree-leaf, tree-split, tree-sorted, length-items}
 use Rattle.nodes.proofs.LayoutLaws.{placed-parts}
 
@@ -49,7 +49,7 @@ module _ (W : ℕ → Bounds) (P : ℕ → Point) (is : List ℕ) (at node next 
   unfolding arranged
   arranged-leaf h = rw (le-ltb 4 (length is) h)
 
-  pub arranged-inner : 4 < length is → arranged P is ≡ halves (goes (along (alongY P is) P)) (length is / 2) is
+  pub arranged-inner : 4 < length is → arranged P is ≡ halves (precedes (centreAlong (alongY P is) P)) (length is / 2) is
   unfolding arranged
   arranged-inner h = rw (lt-ltb 4 (length is) h)
 
@@ -82,7 +82,7 @@ module _ (W : ℕ → Bounds) (P : ℕ → Point) (is : List ℕ) (at node next 
 
   module _ (C₁ : List Float) (L₁ : List ℕ) (is₁ : List ℕ) (s : Settled (treeOf W P is) at node next C L C₁ L₁) (e : is₁ ≡ arranged P is) where
     pub grown-leaf : length is ≤ 4 → Grown (treeOf W P is) at node next C L next is₁ C₁ L₁
-    unfolding nodeOf placed below flatMap extra itemsOf
+    unfolding nodeOf placed nodesBelow flatMap extra itemsOf
     grown-leaf h =
         let t = tree-leaf W P (length is) is h in
         rw t (record { free = omega arith; items = e ∙ arranged-leaf h; corners = rw t at (s .corners); links = rw t at (s .links) })

@@ -9,18 +9,18 @@ use lib.Seq.{sets}
 use Rattle.boundary.specs.declared.Bounds.{Bounds}
 use Rattle.lists.specs.Lists.{atFront}
 use Rattle.nodes.specs.declared.Node.{Node}
-use Rattle.splits.specs.Tree.{Tree, leaf, inner, itemsOf}
-use Rattle.nodes.specs.Layout.{extra, nodeOf, below, nodesOf, placed}
+use Rattle.tree.specs.Tree.{Tree, leaf, inner, itemsOf}
+use Rattle.nodes.specs.Layout.{extra, nodeOf, nodesBelow, nodesOf, placed}
 use Rattle.lists.proofs.StoreLaws.{sets-append, sets-swap, sets-front, flat-length, flat-append}
 
 -- there are as many nodes below as are counted
-pub length-below : (t : Tree) (at next : ℕ) → length (below t at next) ≡ extra t
-unfolding below extra
+pub length-below : (t : Tree) (at next : ℕ) → length (nodesBelow t at next) ≡ extra t
+unfolding nodesBelow extra
 length-below (leaf b is) at next = refl
 length-below (inner b l r) at next =
     let p = length-below l at (next + 2) in
     let q = length-below r (at + length (itemsOf l)) (next + 2 + extra l) in
-    let s = length-append (below l at (next + 2)) (below r (at + length (itemsOf l)) (next + 2 + extra l)) in
+    let s = length-append (nodesBelow l at (next + 2)) (nodesBelow r (at + length (itemsOf l)) (next + 2 + extra l)) in
     omega arith
 
 -- f gives w places for each node
@@ -35,14 +35,14 @@ module _ {A : Type 0} (f : Node → List A) (w : ℕ) (size : (n : Node) → len
   placed-inner : (b : Bounds) (l r : Tree) (at node next : ℕ) (s : List A)
       → placed f w r (at + length (itemsOf l)) (next + 1) (next + 2 + extra l) (placed f w l at next (next + 2) (sets s (w * node) (f (nodeOf (inner b l r) at next))))
       ≡ placed f w (inner b l r) at node next s
-  unfolding placed below flatMap
+  unfolding placed nodesBelow flatMap
   placed-inner b l r at node next s =
       let second = at + length (itemsOf l) in
       let free = next + 2 + extra l in
       let nl = nodeOf l at (next + 2) in
       let nr = nodeOf r second free in
-      let bl = below l at (next + 2) in
-      let br = below r second free in
+      let bl = nodesBelow l at (next + 2) in
+      let br = nodesBelow r second free in
       let one : w * (next + 1) ≡ w * next + length (f nl) = let e = mul-add w next 1 in let m = mul-one w in let z = size nl in omega arith in
       let two : w * (next + 2) ≡ w * (next + 1) + length (f nr) = let e = mul-add w (next + 1) 1 in let m = mul-one w in let z = size nr in let y = ap (λ (n : ℕ). w * n) (arith-two next) in omega arith in
       let three : w * free ≡ w * (next + 2) + length (flatMap f bl) = let e = mul-add w (next + 2) (extra l) in let z = flat-length f w size bl in let y = ap (λ (n : ℕ). w * n) (length-below l at (next + 2)) in omega arith in
@@ -65,4 +65,4 @@ module _ {A : Type 0} (f : Node → List A) (w : ℕ) (size : (n : Node) → len
       let none : w * 0 ≡ 0 = omega arith in
       let one : w * 1 ≡ 0 + length (f (nodeOf t 0 1)) = let m = mul-one w in let z = size (nodeOf t 0 1) in omega arith in
       let l = flat-length f w size (nodesOf t) in
-      rw (none, one, sets-append s 0 (f (nodeOf t 0 1)) (flatMap f (below t 0 1))) (sets-front s (f (nodeOf t 0 1) ++ flatMap f (below t 0 1)) (omega arith))
+      rw (none, one, sets-append s 0 (f (nodeOf t 0 1)) (flatMap f (nodesBelow t 0 1))) (sets-front s (f (nodeOf t 0 1) ++ flatMap f (nodesBelow t 0 1)) (omega arith))

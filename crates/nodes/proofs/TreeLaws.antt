@@ -14,18 +14,18 @@ use Rattle.boundary.specs.declared.Point.{Point}
 use Rattle.boundary.specs.declared.Bounds.{Bounds}
 use Rattle.lists.specs.Lists.{times}
 use Rattle.sorts.specs.Sort.{sort}
-use Rattle.sorts.specs.Keys.{goes}
+use Rattle.sorts.specs.Keys.{precedes}
 use Rattle.lists.proofs.MemberLaws.{times-parts}
 use Rattle.sorts.proofs.SortLaws.{length-sort, times-sort}
 use Rattle.sorts.proofs.PartLaws.{ascend-again, goes-again}
-use Rattle.splits.specs.Tree.{Tree, leaf, inner, hullOf, spreadOf, alongY, along, ordered, treeOn, treeOf, itemsOf}
+use Rattle.tree.specs.Tree.{Tree, leaf, inner, hullOf, spreadOf, alongY, centreAlong, ordered, treeOn, treeOf, itemsOf}
 use Rattle.nodes.specs.Layout.{extra, nodesOf}
 use Rattle.nodes.proofs.LayoutLaws.{length-below}
 
 module _ (C : ℕ → Point) (is : List ℕ) where
   pub length-ordered : length (ordered C is) ≡ length is
   unfolding ordered
-  length-ordered = length-sort (goes (along (alongY C is) C)) is
+  length-ordered = length-sort (precedes (centreAlong (alongY C is) C)) is
 
   -- the two halves of the items
   abbrev pub left : List ℕ
@@ -43,7 +43,7 @@ module _ (C : ℕ → Point) (is : List ℕ) where
   -- each number occurs in the halves as often as in the whole
   pub times-halves : (i : ℕ) → times i left + times i right ≡ times i is
   unfolding ordered
-  times-halves i = times-parts i (length is / 2) (ordered C is) ∙ times-sort (goes (along (alongY C is) C)) i is
+  times-halves i = times-parts i (length is / 2) (ordered C is) ∙ times-sort (precedes (centreAlong (alongY C is) C)) i is
 
 module _ (W : ℕ → Bounds) (C : ℕ → Point) where
   pub tree-leaf : (f : ℕ) (is : List ℕ) → length is ≤ 4 → treeOn f W C is ≡ leaf (hullOf W is) (sort leb is)
@@ -91,7 +91,7 @@ module _ (W : ℕ → Bounds) (C : ℕ → Point) where
 
   ordered-sorted : (g : ℕ → ℕ → Bool) (is : List ℕ) → ordered C (sort g is) ≡ ordered C is
   unfolding ordered
-  ordered-sorted g is = rw (along-sorted g is) (goes-again (along (alongY C is) C) g is)
+  ordered-sorted g is = rw (along-sorted g is) (goes-again (centreAlong (alongY C is) C) g is)
 
   pub tree-sorted : (g : ℕ → ℕ → Bool) (is : List ℕ) → treeOf W C (sort g is) ≡ treeOf W C is
   tree-sorted g is = go (ltb 4 (length is)) refl

@@ -6,7 +6,7 @@ use lib.ListN.{length, getD}
 use lib.Seq.{sets}
 use lib.Ieee.{Float}
 use Rattle.nodes.specs.declared.Node.{Node}
-use Rattle.splits.specs.Tree.{Tree, leaf, inner, itemsOf}
+use Rattle.tree.specs.Tree.{Tree, leaf, inner, itemsOf}
 
 -- how many nodes there are below the root
 unfoldable pub extra : Tree → ℕ
@@ -19,17 +19,17 @@ nodeOf (leaf b is) at next = record { lo = b .min; hi = b .max; first = at; coun
 nodeOf (inner b l r) at next = record { lo = b .min; hi = b .max; first = next; count = 0 }
 
 -- the nodes below it, numbered from `next` on: both children, then what is below the first, then what is below the second
-unfoldable pub below : Tree → ℕ → ℕ → List Node
+unfoldable pub nodesBelow : Tree → ℕ → ℕ → List Node
 unfolding nodeOf extra itemsOf
-below (leaf b is) at next = []
-below (inner b l r) at next =
+nodesBelow (leaf b is) at next = []
+nodesBelow (inner b l r) at next =
     nodeOf l at (next + 2) ∷ nodeOf r (at + length (itemsOf l)) (next + 2 + extra l)
-    ∷ (below l at (next + 2) ++ below r (at + length (itemsOf l)) (next + 2 + extra l))
+    ∷ (nodesBelow l at (next + 2) ++ nodesBelow r (at + length (itemsOf l)) (next + 2 + extra l))
 
 -- all nodes, in the order of their numbers: the root is 0
 unfoldable pub nodesOf : Tree → List Node
-unfolding nodeOf below
-nodesOf t = nodeOf t 0 1 ∷ below t 0 1
+unfolding nodeOf nodesBelow
+nodesOf t = nodeOf t 0 1 ∷ nodesBelow t 0 1
 
 -- a node's corners, min x, min y, max x, max y, and its links, first and count
 abbrev pub cornersOf : Node → List Float
@@ -51,8 +51,8 @@ countAt L n = getD L (2 * n + 1) 0
 -- ---- what the build puts where
 -- the list s with what f gives of the tree's nodes, w places for each: its own at node number `node`, those below from `next` on
 unfoldable pub placed : {A : Type 0} → (Node → List A) → ℕ → Tree → ℕ → ℕ → ℕ → List A → List A
-unfolding flatMap nodeOf below
-placed f w t at node next s = sets (sets s (w * node) (f (nodeOf t at next))) (w * next) (flatMap f (below t at next))
+unfolding flatMap nodeOf nodesBelow
+placed f w t at node next s = sets (sets s (w * node) (f (nodeOf t at next))) (w * next) (flatMap f (nodesBelow t at next))
 
 -- ---- what a call of the build asks and leaves, where it puts the tree t
 -- the working list is as long as the items', and all numbers are 32 bits long

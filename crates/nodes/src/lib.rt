@@ -6,8 +6,8 @@ ghost use lib.Dec.{leb};
 ghost use lib.ListN.{length};
 ghost use lib.Seq.{sets};
 ghost use Rattle.sorts.specs.Sort.{Sorted};
-ghost use Rattle.entries.specs.Entries.{pointIn};
-ghost use Rattle.splits.specs.Tree.{arranged, treeIn};
+ghost use Rattle.boxes.specs.BoxLists.{pointIn};
+ghost use Rattle.tree.specs.Tree.{arranged, treeIn};
 ghost use Rattle.nodes.specs.Layout.{Room, Settled, Grown};
 use boundary::Point;
 
@@ -51,15 +51,15 @@ fn settle(
 {
     let n = list.len();
     if n <= 4 {
-        entries::put_box(corners, node, splits::hull_of(wide, list));
+        boxes::put_box(corners, node, tree::hull_of(wide, list));
         put_links(links, node, at as u32, n as u32);
     } else {
-        let b = splits::spans_of(wide, xs, ys, list);
+        let b = tree::spans_of(wide, xs, ys, list);
         let hull = b.hull;
         let spread = b.spread;
-        entries::put_box(corners, node, hull);
+        boxes::put_box(corners, node, hull);
         put_links(links, node, next as u32, 0);
-        splits::split(xs, ys, spread, list, work);
+        tree::split(xs, ys, spread, list, work);
     }
 }
 

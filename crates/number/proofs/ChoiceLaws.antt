@@ -11,7 +11,7 @@ use lib.Ieee.Bits.{is-true, is-false}
 use lib.Ieee.Fits.{and-l, up-pos, down-pos, neg-fits}
 use borrow.Author.Tests.{lt-ltb, le-ltb, ne-eqb, eqb-true}
 use Rattle.number.specs.Exact.{zeroᶠ, one}
-use Rattle.signs.specs.Signs.{signBit, withSign, absOf, before, maxOf, clampOf}
+use Rattle.signs.specs.Signs.{signBit, withSign, absOf, standsBefore, maxOf, clampOf}
 use Rattle.number.proofs.Units.{value-unique}
 use Rattle.number.proofs.OrderLaws.{le-through, not-below, below-le, level-le, level-ge, le-level, le-not-below, below-not-le, below-through, right-not-nan, above-sign}
 use Rattle.number.proofs.Basics.{one-of}
@@ -22,7 +22,7 @@ none-of true f = absurd (f tt)
 none-of false f = refl
 
 max-plain : (s m : Float) → T (not (isNan s)) → signBit m ≡ false → maxOf s m ≡ cond (le s m) m s
-unfolding maxOf before
+unfolding maxOf standsBefore
 max-plain s m n e = rw (is-false (isNan s) n, e) (go (isNan m) refl (lt m s) refl (eq m s))
   where
     go : (a : Bool) → isNan m ≡ a → (b : Bool) → lt m s ≡ b → (c : Bool) → cond (a || (b || (c && false))) s m ≡ cond (le s m) m s

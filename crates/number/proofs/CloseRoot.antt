@@ -12,7 +12,7 @@ use lib.Ieee.Fits.{nan-fits, inf-fits, cond-fits}
 use lib.Ieee.Exact.{HasValue, units-val}
 use lib.Ieee.Positive.{positive, positive-of-value}
 use borrow.Author.Tests.{leb-true, leb-false}
-use Rattle.number.specs.Root.{floorRoot, rootOf, sqrtOf, Near}
+use Rattle.number.specs.Root.{floorRoot, rootOf, sqrtOf, NearestWhole}
 use Rattle.number.proofs.Basics.{pow-lt-says}
 use Rattle.number.proofs.Doubles.{Double, double}
 use Rattle.number.proofs.FloorRoot.{IsRoot, floor-root, square-lt}
@@ -30,7 +30,7 @@ sqrt-fits (fin s m e) F =
 -- ---- the error
 
 -- the whole number nearest to a root
-near-exists : (c : ℕ) → 0 < c → (q : ℕ) × Near c q
+near-exists : (c : ℕ) → 0 < c → (q : ℕ) × NearestWhole c q
 near-exists c C = go (leb n (r * r + r)) refl
   where
     n : ℕ
@@ -42,7 +42,7 @@ near-exists c C = go (leb n (r * r + r)) refl
     h : IsRoot n r
     h = floor-root n
 
-    go : (b : Bool) → leb n (r * r + r) ≡ b → (q : ℕ) × Near c q
+    go : (b : Bool) → leb n (r * r + r) ≡ b → (q : ℕ) × NearestWhole c q
     go true e = let l : n ≤ r * r + r = leb-true n (r * r + r) e in (r, record { low = omega (arith, h .0, square-lt 1 (r + 1) (omega (arith, h .1))); high = l })
     go false e = let l : r * r + r < n = leb-false n (r * r + r) e in (r + 1, record { low = omega arith; high = omega (arith, h .1) })
 
@@ -127,7 +127,7 @@ sqrt-close x F p = at (scale-of x F p)
         lt' : S .c * (1 + S .w % 2) ≤ 2 ^ 54 - 2
         lt' = parity-le (S .c) (S .w % 2) (omega arith) (S .c-lt)
 
-        go : (q : ℕ) × Near c' q → (j : ℕ) → S .w / 2 ≡ j → Close x (sqrtOf x)
+        go : (q : ℕ) × NearestWhole c' q → (j : ℕ) → S .w / 2 ≡ j → Close x (sqrtOf x)
         go N zero e = let a = S .w-ge in absurd (omega arith)
         go N (suc i) e =
             let q = N .0 in

@@ -15,7 +15,7 @@ use lib.Ieee.Nearest.{closest}
 use lib.Ieee.Scale.{round-same}
 use lib.Ieee.Positive.{positive, above-of-le, positive-of-value, values-of-le, first-pos}
 use Rattle.number.specs.Exact.{zeroᶠ}
-use Rattle.number.specs.Root.{rootOf, sqrtOf, Near, plus-fin}
+use Rattle.number.specs.Root.{rootOf, sqrtOf, NearestWhole, plus-fin}
 use Rattle.signs.specs.Signs.{absOf}
 use Rattle.number.specs.Hypot.{hypotOf, squareLeast, squareEnd}
 use Rattle.number.proofs.Basics.{pow-lt-says}
@@ -32,7 +32,7 @@ use Rattle.number.proofs.PlusLaws.{add-zero, square-plus, square-abs, s
 -- E is 2 ^ 52 or 2 ^ 53, the unit of the last digit of q * q, and c of those is the square, rounded
 near-square : (q c p : ℕ) → p < 2 → 2 ^ 52 ≤ q → q < 2 ^ 53 → 2 ^ 52 * (2 ^ 52 * (1 + p)) ≤ q * q → q * q < 2 ^ 53 * (2 ^ 52 * (1 + p))
     → 2 * (q * q) ≤ 2 * (c * (2 ^ 52 * (1 + p))) + 2 ^ 52 * (1 + p) → 2 * (c * (2 ^ 52 * (1 + p))) ≤ 2 * (q * q) + 2 ^ 52 * (1 + p)
-    → Near (c * (1 + p)) q × (2 ^ 52 ≤ c * (1 + p)) × (c * (1 + p) ≤ 2 ^ 54 - 2)
+    → NearestWhole (c * (1 + p)) q × (2 ^ 52 ≤ c * (1 + p)) × (c * (1 + p) ≤ 2 ^ 54 - 2)
 near-square q c zero P lo hi a b l h = (record { low = omega arith; high = omega arith }, omega arith, omega arith)
 near-square q c (suc zero) P lo hi a b l h =
     let s : 2 ^ 52 < q = square-lt (2 ^ 52) q (omega arith) in
@@ -56,7 +56,7 @@ module _ (q i p d : ℕ) (P : p < 2) (lo : 2 ^ 52 ≤ q) (hi : q < 2 ^ 53) (I : 
   abbrev square : Float
   square = round binary64 false (q * 2 ^ (suc i + 474) * (q * 2 ^ (suc i + 474))) (2 ^ 1074 * 2 ^ 1074)
 
-  good : Near (c * (1 + p)) q × (2 ^ 52 ≤ c * (1 + p)) × (c * (1 + p) ≤ 2 ^ 54 - 2)
+  good : NearestWhole (c * (1 + p)) q × (2 ^ 52 ≤ c * (1 + p)) × (c * (1 + p) ≤ 2 ^ 54 - 2)
   good = let h = closest-near (q * q) E (omega arith) in near-square q c p P lo hi from to (h .0) (h .1)
 
   unit : 2 ^ d * 2 ^ 1074 ≡ E * (2 ^ k * 2 ^ k)

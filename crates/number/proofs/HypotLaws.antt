@@ -10,7 +10,7 @@ use Rattle.number.specs.Exact.{zeroᶠ}
 use Rattle.number.specs.Root.{sqrtOf, Plus, plus-inf, plus-fin}
 use Rattle.signs.specs.Signs.{absOf}
 use Rattle.number.specs.Hypot.{hypotOf}
-use Rattle.number.proofs.PlusLaws.{zero-le, plus-not-nan, add-swap, square-abs, add-plus, add-mono, square-plus, square-mono}
+use Rattle.number.proofs.PlusLaws.{zero-le, plus-not-nan, add-swap, square-abs, add-plus, plus-add-mono, square-plus, square-mono}
 use Rattle.number.proofs.SqrtLaws.{sqrt-plus, sqrt-mono}
 use Rattle.number.proofs.CloseRoot.{sqrt-fits}
 
@@ -76,7 +76,7 @@ squares-mono a b c d h k =
     let p = compared a c h in
     let q = compared b d k in
     subst₂ (λ (v w : Float). T (le v w)) (sym (squares-abs a b)) (sym (squares-abs c d))
-    (add-mono (square-plus (p .0)) (square-plus (q .0)) (square-plus (p .1)) (square-plus (q .1)) (square-mono (p .0) (p .1) h) (square-mono (q .0) (q .1) k))
+    (plus-add-mono (square-plus (p .0)) (square-plus (q .0)) (square-plus (p .1)) (square-plus (q .1)) (square-mono (p .0) (p .1) h) (square-mono (q .0) (q .1) k))
 
 pub hypot-mono : (a b c d : Float) → T (le (absOf a) (absOf c)) → T (le (absOf b) (absOf d)) → T (le (hypotOf a b) (hypotOf c d))
 unfolding hypotOf

@@ -9,16 +9,16 @@ use lib.Pow.{pow-add, pow-pos}
 use lib.Ieee.{binary64, units, toBits, ofBits, fits}
 use lib.Ieee.Fits.{round-fits}
 use lib.Ieee.Bits.{ofBits-toBits}
-use Rattle.number.specs.Root.{twiceRoot, rootOf, Near}
+use Rattle.number.specs.Root.{twiceRoot, rootOf, NearestWhole}
 use Rattle.number.proofs.FloorRoot.{above-twice, above-twice-le, below-twice}
 use Rattle.number.proofs.Units.{round-near, units-bits}
 
 -- ---- the root's range
 
-pub near-ge : (c q : ℕ) → 2 ^ 52 ≤ c → Near c q → 2 ^ 52 ≤ q
+pub near-ge : (c q : ℕ) → 2 ^ 52 ≤ c → NearestWhole c q → 2 ^ 52 ≤ q
 near-ge c q C h = by-contra (2 ^ 52) q (λ (l : q < 2 ^ 52). omega (arith, mul-le-mul-left q (le-pred-of-lt l), h .high))
 
-pub near-lt : (c q : ℕ) → c ≤ 2 ^ 54 - 2 → Near c q → q < 2 ^ 53
+pub near-lt : (c q : ℕ) → c ≤ 2 ^ 54 - 2 → NearestWhole c q → q < 2 ^ 53
 near-lt c q C h = by-contra (suc q) (2 ^ 53) (λ (l : 2 ^ 53 < suc q). no l)
   where
     no : 2 ^ 53 < suc q → ⊥
@@ -47,7 +47,7 @@ range-high M A P h = omega (arith, below-twice (M * (A * A)) (2 ^ 53 * A) (omega
 
 -- ---- the root of c * 2 ^ 52 * 4 ^ j, and its bits
 
-pub root-units : (c i q : ℕ) → 2 ^ 52 ≤ c → c ≤ 2 ^ 54 - 2 → Near c q → rootOf (c * 2 ^ 52 * (2 ^ suc i * 2 ^ suc i)) ≡ units binary64 false q (suc i + 474)
+pub root-units : (c i q : ℕ) → 2 ^ 52 ≤ c → c ≤ 2 ^ 54 - 2 → NearestWhole c q → rootOf (c * 2 ^ 52 * (2 ^ suc i * 2 ^ suc i)) ≡ units binary64 false q (suc i + 474)
 unfolding rootOf
 root-units c i q lo hi h =
     let M = c * 2 ^ 52 in
@@ -60,7 +60,7 @@ root-units c i q lo hi h =
     let g : twiceRoot (M * (2 ^ j * 2 ^ j)) < q * (2 * 2 ^ j) + 2 ^ j = subst (λ (A : ℕ). twiceRoot (M * (A * A)) < q * (2 * A) + A) (sym e) (high-side M (2 ^ i) q (pow-pos i) (h .high)) in
     round-near (twiceRoot (M * (2 ^ j * 2 ^ j))) q j a b l g
 
-pub root-bits : (c i q : ℕ) → 2 ^ 52 ≤ c → c ≤ 2 ^ 54 - 2 → i ≤ 1500 → Near c q → toBits binary64 (rootOf (c * 2 ^ 52 * (2 ^ suc i * 2 ^ suc i))) ≡ (suc i + 474) * 2 ^ 52 + q
+pub root-bits : (c i q : ℕ) → 2 ^ 52 ≤ c → c ≤ 2 ^ 54 - 2 → i ≤ 1500 → NearestWhole c q → toBits binary64 (rootOf (c * 2 ^ 52 * (2 ^ suc i * 2 ^ suc i))) ≡ (suc i + 474) * 2 ^ 52 + q
 root-bits c i q lo hi I h =
     ap (toBits binary64) (root-units c i q lo hi h) ∙ units-bits q (suc i + 474) (near-ge c q lo h) (near-lt c q hi h) (omega arith)
 
@@ -94,7 +94,7 @@ parity-le c zero l hi = omega arith
 parity-le c (suc zero) l hi = omega arith
 parity-le c (suc (suc p)) l hi = omega arith
 
-pub root-is : (c w q : ℕ) → 2 ^ 52 ≤ c → c < 2 ^ 53 → 2 ≤ w → w ≤ 2119 → Near (c * (1 + w % 2)) q → ofBits binary64 ((w / 2 + 474) * 2 ^ 52 + q) ≡ rootOf (c * 2 ^ (w + 52))
+pub root-is : (c w q : ℕ) → 2 ^ 52 ≤ c → c < 2 ^ 53 → 2 ≤ w → w ≤ 2119 → NearestWhole (c * (1 + w % 2)) q → ofBits binary64 ((w / 2 + 474) * 2 ^ 52 + q) ≡ rootOf (c * 2 ^ (w + 52))
 root-is c w q lo hi W X h = go (w / 2) refl
   where
     go : (j : ℕ) → w / 2 ≡ j → ofBits binary64 ((w / 2 + 474) * 2 ^ 52 + q) ≡ rootOf (c * 2 ^ (w + 52))

@@ -15,7 +15,7 @@ use Rattle.algebra.specs.Order.{_≦_, _≺_, ≤ℤ-trans, ≤ℤ-of-eq}
 use Rattle.algebra.specs.Sign.{signed}
 use Rattle.number.specs.Exact.{Is, zeroᶠ}
 use Rattle.number.specs.Root.{Plus, plus-inf, plus-fin}
-use Rattle.signs.specs.Signs.{signBit, absOf, before, maxOf, clampOf}
+use Rattle.signs.specs.Signs.{signBit, absOf, standsBefore, maxOf, clampOf}
 use Rattle.number.proofs.Basics.{or-l, or-r, or-split, one-of}
 use Rattle.number.proofs.Operations.{equation→is, rescale}
 use Rattle.number.proofs.Compare.{lt-is, le-is, eq→, not-lt, le-of-signs, le-neg}
@@ -268,7 +268,7 @@ abs-plus (plus-fin m e) = refl
 -- it is one of the two
 pub max-one-of : (P : Float → Type 0) {x y : Float} → P x → P y → P (maxOf x y)
 unfolding maxOf
-max-one-of P {x} {y} p q = go (isNan x) (isNan y || before y x)
+max-one-of P {x} {y} p q = go (isNan x) (isNan y || standsBefore y x)
   where
     go : (b c : Bool) → P (cond b y (cond c x y))
     go true c = q
@@ -276,7 +276,7 @@ max-one-of P {x} {y} p q = go (isNan x) (isNan y || before y x)
     go false false = q
 
 pub le-max-left : (x y : Float) → T (not (isNan x)) → T (not (isNan y)) → T (le x (maxOf x y))
-unfolding maxOf before
+unfolding maxOf standsBefore
 le-max-left x y p q = go (isNan x) p (isNan y) q (lt y x) refl (eq y x && signBit y)
   where
     go : (a : Bool) → T (not a) → (b : Bool) → T (not b) → (c : Bool) → lt y x ≡ c → (d : Bool) → T (le x (cond a y (cond (b || (c || d)) x y)))
@@ -287,7 +287,7 @@ le-max-left x y p q = go (isNan x) p (isNan y) q (lt y x) refl (eq y x && signBi
     go false n false m false e false = not-below y x q p e
 
 pub le-max-right : (x y : Float) → T (not (isNan y)) → T (le y (maxOf x y))
-unfolding maxOf before
+unfolding maxOf standsBefore
 le-max-right x y q = go (isNan x) (isNan y) q (lt y x) refl (eq y x) refl (signBit y)
   where
     go : (a b : Bool) → T (not b) → (c : Bool) → lt y x ≡ c → (d : Bool) → eq y x ≡ d → (s : Bool) → T (le y (cond a y (cond (b || (c || (d && s))) x y)))

@@ -63,14 +63,14 @@ add-plus plus-inf (plus-fin n d) = plus-inf
 add-plus (plus-fin m e) plus-inf = plus-inf
 add-plus (plus-fin m e) (plus-fin n d) = round-plus (m * up e * down d + n * up d * down e) (down e * down d)
 
-pub add-mono : {x y x' y' : Float} → Plus x → Plus y → Plus x' → Plus y' → T (le x x') → T (le y y') → T (le (add binary64 x y) (add binary64 x' y'))
+pub plus-add-mono : {x y x' y' : Float} → Plus x → Plus y → Plus x' → Plus y' → T (le x x') → T (le y y') → T (le (add binary64 x y) (add binary64 x' y'))
 unfolding add le
-add-mono p q plus-inf plus-inf h k = le-inf (add-plus p q)
-add-mono p q plus-inf (plus-fin n' d') h k = le-inf (add-plus p q)
-add-mono p q (plus-fin m' e') plus-inf h k = le-inf (add-plus p q)
-add-mono plus-inf q (plus-fin m' e') (plus-fin n' d') h k = absurd h
-add-mono (plus-fin m e) plus-inf (plus-fin m' e') (plus-fin n' d') h k = absurd k
-add-mono (plus-fin m e) (plus-fin n d) (plus-fin m' e') (plus-fin n' d') h k =
+plus-add-mono p q plus-inf plus-inf h k = le-inf (add-plus p q)
+plus-add-mono p q plus-inf (plus-fin n' d') h k = le-inf (add-plus p q)
+plus-add-mono p q (plus-fin m' e') plus-inf h k = le-inf (add-plus p q)
+plus-add-mono plus-inf q (plus-fin m' e') (plus-fin n' d') h k = absurd h
+plus-add-mono (plus-fin m e) plus-inf (plus-fin m' e') (plus-fin n' d') h k = absurd k
+plus-add-mono (plus-fin m e) (plus-fin n d) (plus-fin m' e') (plus-fin n' d') h k =
     round-mono binary64 (m * up e * down d + n * up d * down e) (down e * down d) (m' * up e' * down d' + n' * up d' * down e') (down e' * down d') (mul-pos (down-pos e) (down-pos d)) (mul-pos (down-pos e') (down-pos d'))
     (cross (m * up e) (n * up d) (down e) (down d) (m' * up e') (n' * up d') (down e') (down d') (le-says m e m' e' h) (le-says n d n' d' k))
   where

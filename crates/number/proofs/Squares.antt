@@ -3,7 +3,7 @@ use mathlib.Core.Path.{_≡_, sym, ap, _∙_}
 use Prim.Native.Nat.{ℕ, _+_, _-_, _*_, _/_, _%_, _^_, _≤_, _<_}
 use native.Mathlib.Nat.{mul-le-mul, mod-eq-of-lt}
 use native.Mathlib.Omega.{arith}
-use Rattle.number.specs.Root.{Near}
+use Rattle.number.specs.Root.{NearestWhole}
 
 pub square-of : (q : ℕ) → q * q ≡ (q / 2 ^ 26) * (q / 2 ^ 26) * 2 ^ 52 + (q / 2 ^ 26 * (q % 2 ^ 26) + q / 2 ^ 26 * (q % 2 ^ 26)) * 2 ^ 26 + q % 2 ^ 26 * (q % 2 ^ 26)
 square-of q = ap (λ (x : ℕ). x * x) e ∙ omega arith
@@ -28,7 +28,7 @@ halves-le q h = (mul-le-mul a a, mul-le-mul a b, mul-le-mul b b, mul-le-mul d d)
 module _ (c q e f : ℕ) (C : c < 2 ^ 54) (Q : q < 2 ^ 53)
     (E : (e + q / 2 ^ 26 * (q / 2 ^ 26)) % 2 ^ 64 ≡ c) (e-small : e < 2 ^ 36)
     (F : (f + 2 * (q / 2 ^ 26 * (q % 2 ^ 26))) % 2 ^ 64 ≡ e * 2 ^ 26 + 2 ^ 30) (f-small : f < 2 ^ 31) where
-  pub root-tested : q % 2 ^ 26 * (q % 2 ^ 26) + 2 ^ 56 < f * 2 ^ 26 + q → f * 2 ^ 26 + q ≤ q % 2 ^ 26 * (q % 2 ^ 26) + 2 ^ 56 + 2 * q → Near c q
+  pub root-tested : q % 2 ^ 26 * (q % 2 ^ 26) + 2 ^ 56 < f * 2 ^ 26 + q → f * 2 ^ 26 + q ≤ q % 2 ^ 26 * (q % 2 ^ 26) + 2 ^ 56 + 2 * q → NearestWhole c q
   root-tested l h =
       let A = q / 2 ^ 26 * (q / 2 ^ 26) in
       let B = q / 2 ^ 26 * (q % 2 ^ 26) in

@@ -44,7 +44,7 @@ pub data Plus : Float → Type 0 where
   plus-fin : (m : ℕ) (e : ℤ) → Plus (fin false m e)
 
 -- q is the whole number nearest to the root of c * 2 ^ 52: (2 q - 1) ^ 2 < 4 c 2 ^ 52 < (2 q + 1) ^ 2, and nothing lies between 4 q q ± 4 q and that plus one
-pub record Near (c q : ℕ) : Type 0 where
+pub record NearestWhole (c q : ℕ) : Type 0 where
   pub low : q * q < c * 2 ^ 52 + q
   pub high : c * 2 ^ 52 ≤ q * q + q
 

@@ -4,7 +4,7 @@ ghost use mathlib.Core.Bool.{true, _&&_};
 ghost use Prim.Native.Nat.{_+_, _-_, _*_, _^_, _≤_, _<_};
 ghost use lib.Dec.{ltb};
 ghost use lib.Ieee.{le, lt};
-ghost use Rattle.number.specs.Root.{rootOf, sqrtOf, Near};
+ghost use Rattle.number.specs.Root.{rootOf, sqrtOf, NearestWhole};
 ghost use Rattle.number.specs.Hypot.{hypotOf, squareLeast, squareEnd, clearlyLess, clearLimit, Short};
 ghost use Rattle.signs.specs.Signs.{absOf};
 use signs::abs;
@@ -55,7 +55,7 @@ fn is_low(c: u64, q: u64) -> bool
 // two differences have to be small, and the third is compared.
 fn is_root(c: u64, q: u64) -> bool
     requires { ⌜ (c < 2 ^ 54) × (q < 2 ^ 53) ⌝ }
-    ensures { λ r. ⌜ (r ≡ true → Near c q) ⌝ }
+    ensures { λ r. ⌜ (r ≡ true → NearestWhole c q) ⌝ }
 {
     let a = q / 0x400_0000;
     let b = q % 0x400_0000;
@@ -74,7 +74,7 @@ fn is_root(c: u64, q: u64) -> bool
 // The nearest root by bisection: 52 turns.
 fn bisect(c: u64) -> u64
     requires { ⌜ (2 ^ 52 ≤ c) × (c ≤ 2 ^ 54 - 2) ⌝ }
-    ensures { λ r. ⌜ Near c r ⌝ }
+    ensures { λ r. ⌜ NearestWhole c r ⌝ }
 {
     let mut lo: u64 = 0x10_0000_0000_0000;
     let mut hi: u64 = 0x20_0000_0000_0000;
@@ -114,7 +114,7 @@ fn guess(i: u64) -> f64
 // does, or else by bisection.
 fn nearest_root(d: u64, q: u64) -> u64
     requires { ⌜ (2 ^ 52 ≤ d) × (d ≤ 2 ^ 54 - 2) × (2 ^ 52 ≤ q) × (q < 2 ^ 53) ⌝ }
-    ensures { λ r. ⌜ Near d r ⌝ }
+    ensures { λ r. ⌜ NearestWhole d r ⌝ }
 {
     if is_root(d, q) {
         return q;

@@ -8,8 +8,8 @@ use Rattle.boundary.specs.Line.{lineNear}
 use Rattle.pieces.specs.Ellipse.{ellipseNear}
 
 -- an outline's edge as a piece
-abbrev pub lineOf : Edge → Piece
-lineOf e = Line (e .a .x) (e .a .y) (e .b .x) (e .b .y)
+abbrev pub pieceOf : Edge → Piece
+pieceOf e = Line (e .a .x) (e .a .y) (e .b .x) (e .b .y)
 
 -- `Piece::nearest`
 unfoldable pub pieceNear : Piece → Point → Near

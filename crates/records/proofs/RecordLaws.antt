@@ -20,8 +20,8 @@ use Rattle.accept.specs.Answers.{Outcome}
 use Rattle.accept.specs.Refusals.{number, given, _refusing_when_}
 use Rattle.accept.proofs.TestLaws.{refusing-passed, given-map}
 use Rattle.nodes.specs.declared.Node.{Node}
-use Rattle.entries.specs.Entries.{boxCount}
-use Rattle.splits.specs.Tree.{Tree, indexOf, itemsOf}
+use Rattle.boxes.specs.BoxLists.{boxCount}
+use Rattle.tree.specs.Tree.{Tree, indexOf, itemsOf}
 use Rattle.nodes.specs.Layout.{nodeOf, nodesOf, cornersOf, linksOf}
 use Rattle.index.specs.declared.BuildFields.{BuildFields}
 use Rattle.index.specs.Buffer.{IndexBuffer, shortSizes, holding, grown}

@@ -11,8 +11,8 @@ use Rattle.accept.specs.Answers.{Outcome}
 use Rattle.lists.specs.Lists.{atFront}
 use Rattle.accept.specs.Refusals.{number, given, _refusing_when_}
 use Rattle.nodes.specs.declared.Node.{Node}
-use Rattle.entries.specs.Entries.{boxAt}
-use Rattle.splits.specs.Tree.{Tree, indexOf, itemsOf}
+use Rattle.boxes.specs.BoxLists.{boxAt}
+use Rattle.tree.specs.Tree.{Tree, indexOf, itemsOf}
 use Rattle.nodes.specs.Layout.{nodesOf, firstAt, countAt}
 use Rattle.index.specs.declared.BuildFields.{BuildFields}
 use Rattle.index.specs.declared.Built.the-variants.{Refused, Sized}

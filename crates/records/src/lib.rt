@@ -5,15 +5,15 @@ ghost use mathlib.Core.List.{_++_};
 ghost use lib.ListN.{length, take, drop};
 ghost use Rattle.lists.specs.Lists.{run, atFront};
 ghost use Rattle.accept.specs.declared.Test.the-variants.{Passed};
-ghost use Rattle.splits.specs.Tree.{indexOf};
+ghost use Rattle.tree.specs.Tree.{indexOf};
 ghost use Rattle.index.specs.Answers.{boxesTested};
 ghost use Rattle.records.specs.Records.{nodeIn, blankNodes, nodesTested, recording, recordsOutcome};
 use accept::Refusal;
 use accept::Test;
 use accept::refusals::refusing;
 use boundary::Point;
+use index::building;
 use index::refusals;
-use index::tree;
 use nodes::Node;
 
 // What the call returns, how many nodes there are, and the nodes, at the front of a list.
@@ -28,7 +28,7 @@ fn node_in(corners: &[f64], links: &[u32], i: usize) -> Node
     requires { ⌜ i < 2 ^ 32 ⌝ }
     ensures { λ r. ⌜ r ≡ nodeIn (now (corners .entry)) (now (links .entry)) i ⌝ }
 {
-    let b = entries::box_at(corners, i);
+    let b = boxes::box_at(corners, i);
     let lo = b.min;
     let hi = b.max;
     let k = 2 * i;
@@ -75,7 +75,7 @@ fn recorded(boxes: &[f64], items: &mut [u32]) -> Recording
 {
     let mut corners = [0.0; 2044];
     let mut links = [0; 1022];
-    let count = tree::grow(boxes, &mut corners, &mut links, items);
+    let count = building::grow(boxes, &mut corners, &mut links, items);
     let list = listed(&corners, &links, count);
     Recording {
         number: 0,

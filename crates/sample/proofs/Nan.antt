@@ -8,5 +8,5 @@ use lib.Ieee.{binary64, nanBits}
 use lib.Ieee.Bits.{nanBits-above}
 
 -- a pattern that is at most the infinity's, its sign left out, is no NaN's
-pub bits-not-nan : (n : ℕ) → n % 2 ^ 63 ≤ 2047 * 2 ^ 52 → T (not (nanBits binary64 n))
-bits-not-nan n h = subst (λ (b : Bool). T (not b)) (sym (nanBits-above binary64 n)) (le→nltb (2047 * 2 ^ 52) (n % 2 ^ 63) h)
+pub low-bits-not-nan : (n : ℕ) → n % 2 ^ 63 ≤ 2047 * 2 ^ 52 → T (not (nanBits binary64 n))
+low-bits-not-nan n h = subst (λ (b : Bool). T (not b)) (sym (nanBits-above binary64 n)) (le→nltb (2047 * 2 ^ 52) (n % 2 ^ 63) h)

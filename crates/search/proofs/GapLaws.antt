@@ -13,18 +13,18 @@ use Rattle.boundary.specs.declared.Point.{Point}
 use Rattle.boundary.specs.declared.Bounds.{Bounds}
 use Rattle.boundary.specs.Boxes.{FieldPoint, FiniteBox, Around, widenedOf, gapOf}
 use Rattle.lists.specs.Lists.{run, In}
-use Rattle.boundary.proofs.AroundLaws.{Number}
+use Rattle.boundary.proofs.AroundLaws.{NotNan}
 use Rattle.boundary.proofs.BoxLaws.{widened-box-finite}
 use Rattle.lists.proofs.MemberLaws.{times-append}
-use Rattle.entries.specs.Entries.{boxCount, wideAt, centreOf}
+use Rattle.boxes.specs.BoxLists.{boxCount, wideAt, centreOf}
 use Rattle.lists.proofs.RunLaws.{length-run}
-use Rattle.splits.specs.Tree.{Tree, leaf, inner, hullOf, treeOf, indexOf, itemsOf, EachNode}
+use Rattle.tree.specs.Tree.{Tree, leaf, inner, hullOf, treeOf, indexOf, itemsOf, EachNode}
 use Rattle.nodes.specs.Layout.{nodesOf}
 use Rattle.nodes.proofs.LayoutLaws.{length-below}
 use Rattle.nodes.proofs.TreeLaws.{left, right, length-left, length-right, times-halves, tree-induct}
 use Rattle.index.specs.Buffer.{IndexBuffer, Stands}
 use Rattle.index.proofs.HullLaws.{hull-of-finite}
-use Rattle.index.proofs.Theorems.{items-times, items-once, node-boxes, nodes-511}
+use Rattle.index.proofs.IndexCovers.{items-times, items-once, node-boxes, nodes-511}
 use Rattle.set.specs.Set.{Outline, outlineIn, setBox, setBoxes, Fitting, DoubleSet}
 use Rattle.set.proofs.SetLaws.{outline-past, outline-numbers, boxes-length, box-at-set, boxes-tested, box-field}
 use Rattle.search.specs.Least.{magnitudeAt}
@@ -84,10 +84,10 @@ module _ (os : List Outline) (fit : Fitting os) (held : DoubleSet os) where
     pub past-magnitude : magnitudeAt os p (length os) ≡ inf false
     past-magnitude = rw (outline-past os (length os) (omega arith)) (magnitude-none p)
 
-    pub magnitude-number : (k : ℕ) → k ≤ length os → Number (magnitudeAt os p k)
+    pub magnitude-number : (k : ℕ) → k ≤ length os → NotNan (magnitudeAt os p k)
     magnitude-number k l = go (ltb k (length os)) refl
       where
-        go : (b : Bool) → ltb k (length os) ≡ b → Number (magnitudeAt os p k)
+        go : (b : Bool) → ltb k (length os) ≡ b → NotNan (magnitudeAt os p k)
         go true e = left-not-nan (magnitudeAt os p k) (inf false) (below-le (magnitudeAt os p k) (inf false) (set-magnitude k (ltb-true k (length os) e) .finite))
         go false e = let z : k ≡ length os = (let m = ltb-false k (length os) e in omega arith) in rw (z, past-magnitude) (unfold isNan in tt)
 

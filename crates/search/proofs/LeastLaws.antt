@@ -11,7 +11,7 @@ use lib.Dec.{T, ltb}
 use lib.Ieee.{Float, lt, le, eq}
 use Rattle.number.proofs.OrderLaws.{le-self, le-through, le-level, level-le, not-below, below-le, below-not-le}
 use Rattle.lists.specs.Lists.{run, fold, times, In}
-use Rattle.boundary.proofs.AroundLaws.{Number}
+use Rattle.boundary.proofs.AroundLaws.{NotNan}
 use Rattle.lists.proofs.MemberLaws.{in-cons, in-first, in-rest}
 use Rattle.search.specs.declared.Best.{Best}
 use Rattle.search.specs.Least.{closer, leastOf}
@@ -34,7 +34,7 @@ module _ (D : ℕ → Float) where
   pub among-this : (n k : ℕ) → k ≤ n → Among n (this k)
   among-this n k h = record { within = h; is = refl }
 
-  pub upto-this : (k : ℕ) → Number (D k) → Upto (this k) k
+  pub upto-this : (k : ℕ) → NotNan (D k) → Upto (this k) k
   upto-this k N = record { least = le-self (D k) N; first = λ _. omega arith }
 
   upto-through : (b : Best) (k i : ℕ) → T (le (D k) (b .distance)) → (T (le (b .distance) (D k)) → k ≤ b .outline) → Upto b i → Upto (this k) i
@@ -52,8 +52,8 @@ module _ (D : ℕ → Float) where
     new : Upto r k
     old : (i : ℕ) → Upto b i → Upto r i
 
-  module _ (n : ℕ) (N : (k : ℕ) → k ≤ n → Number (D k)) (b : Best) (B : Among n b) (k : ℕ) (K : k ≤ n) where
-    number : Number (b .distance)
+  module _ (n : ℕ) (N : (k : ℕ) → k ≤ n → NotNan (D k)) (b : Best) (B : Among n b) (k : ℕ) (K : k ≤ n) where
+    number : NotNan (b .distance)
     number = rw (B .is) (N (b .outline) (B .within))
 
     -- it is replaced by the k-th
@@ -91,7 +91,7 @@ module _ (D : ℕ → Float) where
     pub new : (i : ℕ) → In i ks → Upto r i
     pub old : (i : ℕ) → Upto b i → Upto r i
 
-  pub best-is : (n : ℕ) → ((k : ℕ) → k ≤ n → Number (D k)) → (ks : List ℕ) → ((i : ℕ) → In i ks → i ≤ n) → (b : Best) → Among n b → BestIs n b ks (bestOf D b ks)
+  pub best-is : (n : ℕ) → ((k : ℕ) → k ≤ n → NotNan (D k)) → (ks : List ℕ) → ((i : ℕ) → In i ks → i ≤ n) → (b : Best) → Among n b → BestIs n b ks (bestOf D b ks)
   unfolding bestOf fold times
   best-is n N [] h b B = record { among = B; new = λ i k. absurd (omega arith); old = λ i u. u }
   best-is n N (k ∷ ks) h b B =
@@ -104,13 +104,13 @@ module _ (D : ℕ → Float) where
       }
 
   -- ---- the least of the first n
-  pub record Least (n : ℕ) (b : Best) : Type 0 where
+  pub record LeastOutline (n : ℕ) (b : Best) : Type 0 where
     pub within : b .outline < n
     pub is : b .distance ≡ D (b .outline)
     pub upto : (i : ℕ) → i < n → Upto b i
 
   -- the best of the first i, and the next m one after the other
-  swept : (n : ℕ) → ((k : ℕ) → k ≤ n → Number (D k)) → (i m : ℕ) (b : Best) → i + m ≤ suc n → b .outline < i → b .distance ≡ D (b .outline) → ((j : ℕ) → j < i → Upto b j) → Least (i + m) (fold (closer D) b (run (λ k. k) i m))
+  swept : (n : ℕ) → ((k : ℕ) → k ≤ n → NotNan (D k)) → (i m : ℕ) (b : Best) → i + m ≤ suc n → b .outline < i → b .distance ≡ D (b .outline) → ((j : ℕ) → j < i → Upto b j) → LeastOutline (i + m) (fold (closer D) b (run (λ k. k) i m))
   unfolding fold run
   swept n N i zero b l o e u = let z : i + 0 ≡ i = omega arith in rw z (record { within = o; is = e; upto = u })
   swept n N i (suc m) b l o e u =
@@ -127,14 +127,14 @@ module _ (D : ℕ → Float) where
       upto j h r (yes z) = rw z (r .new)
       upto j h r (no a) = r .old j (u j (omega arith))
 
-  pub least-of : (n : ℕ) → 0 < n → ((k : ℕ) → k < n → Number (D k)) → Least n (leastOf D n)
+  pub least-of : (n : ℕ) → 0 < n → ((k : ℕ) → k < n → NotNan (D k)) → LeastOutline n (leastOf D n)
   unfolding leastOf
   least-of n p N =
       let z : 1 + (n - 1) ≡ n = omega arith in
       rw z at (swept (n - 1) (λ k h. N k (omega arith)) 1 (n - 1) (this 0) (omega arith) (omega arith) refl (λ j h. let y : j ≡ 0 = omega arith in rw y (upto-this 0 (N 0 (omega arith)))))
 
   -- there is only one
-  pub least-only : (n : ℕ) (b c : Best) → Least n b → Least n c → b ≡ c
+  pub least-only : (n : ℕ) (b c : Best) → LeastOutline n b → LeastOutline n c → b ≡ c
   least-only n b c B C =
       let p = B .upto (c .outline) (C .within) in
       let q = C .upto (b .outline) (B .within) in

@@ -25,7 +25,7 @@ use Rattle.boundary.specs.declared.Edge.{Edge}
 use Rattle.boundary.specs.declared.Near.{Near}
 use Rattle.boundary.specs.declared.Distance.{Distance}
 use Rattle.boundary.specs.declared.Bounds.{Bounds}
-use Rattle.boundary.specs.Boxes.{PointOf, FieldValue, FieldPoint, FieldEdge, FieldBox, Inside, Around, nowhere, spot, stretched, widenedOf, gapOf}
+use Rattle.boundary.specs.Boxes.{PointOf, FieldValue, FieldPoint, FieldEdge, FieldBox, Inside, Around, emptyBox, pointBox, stretched, widenedOf, gapOf}
 use Rattle.lists.specs.Lists.{run, fold}
 use Rattle.boundary.specs.Line.{footOf, lineNear}
 use Rattle.distance.specs.Nearest.{nearer, farAway, nearestOf, roundingOf, flipped, awayAlong, signedOf}
@@ -33,9 +33,9 @@ use Rattle.boundary.specs.Outline.{count, after, vertexAt, edgeAt, vertices, ed
 use Rattle.pieces.specs.Piece.{pieceNear}
 use Rattle.boundary.proofs.BoxLaws.{around-inside}
 use Rattle.boundary.proofs.FieldLaws.{field-not-nan}
-use Rattle.distance.proofs.SearchLaws.{foot-near, near-finite, step}
+use Rattle.distance.proofs.SearchLaws.{foot-near, near-finite, nearerStep}
 use Rattle.geometry.specs.Polygon.{boundsOf, containsOf}
-use Rattle.boundary.proofs.AroundLaws.{Number, NumberBox, around-self, around-through, hull-number, hull-around, nowhere-number}
+use Rattle.boundary.proofs.AroundLaws.{NotNan, NumberBox, around-self, around-through, hull-number, hull-around, nowhere-number}
 use Rattle.set.specs.Set.{Outline, outlineBox}
 use Rattle.search.specs.Least.{magnitudeOf}
 use Rattle.boundary.specs.Boxes.{DoubleBox}
@@ -96,11 +96,11 @@ record Stretched (b : Bounds) (q : Point) (r : Bounds) : Type 0 where
   around : Around r b
   inside : Inside q r
 
-stretched-has : (b : Bounds) (q : Point) → NumberBox b → PointOf Number q → Stretched b q (stretched b q)
+stretched-has : (b : Bounds) (q : Point) → NumberBox b → PointOf NotNan q → Stretched b q (stretched b q)
 stretched-has b q B Q =
-    let both = hull-around b (spot q) B (record { min = Q; max = Q }) in
+    let both = hull-around b (pointBox q) B (record { min = Q; max = Q }) in
     record {
-      number = hull-number b (spot q) B (record { min = Q; max = Q });
+      number = hull-number b (pointBox q) B (record { min = Q; max = Q });
       around = both .0;
       inside = record { x = record { low = both .1 .left; high = both .1 .right }; y = record { low = both .1 .bottom; high = both .1 .top } };
     }
@@ -109,7 +109,7 @@ record Boxed (b : Bounds) (g : ℕ → Point) (i n : ℕ) (r : Bounds) : Type 0 
   around : Around r b
   inside : (j : ℕ) → i ≤ j → j < n → Inside (g j) r
 
-boxed : (g : ℕ → Point) (i m : ℕ) (b : Bounds) → NumberBox b → ((j : ℕ) → j < i + m → PointOf Number (g j)) → Boxed b g i (i + m) (fold stretched b (run g i m))
+boxed : (g : ℕ → Point) (i m : ℕ) (b : Bounds) → NumberBox b → ((j : ℕ) → j < i + m → PointOf NotNan (g j)) → Boxed b g i (i + m) (fold stretched b (run g i m))
 unfolding fold run
 boxed g i zero b B N = record { around = around-self b B; inside = λ j l h. absurd (omega arith) }
 boxed g i (suc m) b B N =
@@ -140,14 +140,14 @@ module _ (o : Outline) (N : (i : ℕ) → i < length o → FieldValue (getD o i 
   -- its box has every vertex
   vertex-inside : (i : ℕ) → i < count o → Inside (vertexAt o i) (outlineBox o)
   unfolding boundsOf vertices
-  vertex-inside i l = boxed (vertexAt o) 0 (count o) nowhere nowhere-number number .inside i (omega arith) (omega arith)
+  vertex-inside i l = boxed (vertexAt o) 0 (count o) emptyBox nowhere-number number .inside i (omega arith) (omega arith)
     where
-      number : (j : ℕ) → j < 0 + count o → PointOf Number (vertexAt o j)
+      number : (j : ℕ) → j < 0 + count o → PointOf NotNan (vertexAt o j)
       number j h = let v = vertex-field j (omega arith) in record { x = field-not-nan (v .x); y = field-not-nan (v .y) }
 
   module _ (p : Point) (P : FieldPoint p) (some : 0 < count o) where
     -- what holds of the distance of every edge holds of the nearest
-    later : (Q : Near → Type 0) → ((i : ℕ) → i < count o → Q (lineNear (edgeAt o i) p)) → (i m : ℕ) → i + m ≤ count o → (best : Near) → Q best → Q (fold (step p) best (run (edgeAt o) i m))
+    later : (Q : Near → Type 0) → ((i : ℕ) → i < count o → Q (lineNear (edgeAt o i) p)) → (i m : ℕ) → i + m ≤ count o → (best : Near) → Q best → Q (fold (nearerStep p) best (run (edgeAt o) i m))
     unfolding fold run pieceNear
     later Q h i zero l best q = q
     later Q h i (suc m) l best q = later Q h (suc i) m (omega arith) (nearer best (lineNear (edgeAt o i) p)) (pick (lt (lineNear (edgeAt o i) p .d) (best .d)))
@@ -156,7 +156,7 @@ module _ (o : Outline) (N : (i : ℕ) → i < length o → FieldValue (getD o i 
         pick true = h i (omega arith)
         pick false = q
 
-    from-first : (Q : Near → Type 0) → ((i : ℕ) → i < count o → Q (lineNear (edgeAt o i) p)) → (n : ℕ) → 0 < n → n ≤ count o → Q (fold (step p) (farAway p) (run (edgeAt o) 0 n))
+    from-first : (Q : Near → Type 0) → ((i : ℕ) → i < count o → Q (lineNear (edgeAt o i) p)) → (n : ℕ) → 0 < n → n ≤ count o → Q (fold (nearerStep p) (farAway p) (run (edgeAt o) 0 n))
     unfolding fold run pieceNear
     from-first Q h zero l m = absurd (omega arith)
     from-first Q h (suc n) l m = later Q h 1 n (omega arith) (nearer (farAway p) (lineNear (edgeAt o 0) p)) (rw (near-finite (edge-field 0 (omega arith)) P) (h 0 (omega arith)))

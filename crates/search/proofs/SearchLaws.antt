@@ -13,34 +13,34 @@ use Rattle.boundary.specs.declared.Point.{Point}
 use Rattle.lists.proofs.MemberLaws.{times-append}
 use Rattle.lists.specs.Lists.{times, In}
 use Rattle.heap.specs.declared.Entry.{Entry}
-use Rattle.heap.specs.Heap.{Heaped, total, Pushed, Popped}
+use Rattle.heap.specs.Heap.{Heaped, totalWeight, Pushed, Popped}
 use Rattle.heap.proofs.HeapLaws.{all-kept, all-left, popped-gap}
-use Rattle.splits.specs.Tree.{itemsOf}
+use Rattle.tree.specs.Tree.{itemsOf}
 use Rattle.nodes.specs.Layout.{extra, firstAt, countAt}
 use Rattle.index.specs.Buffer.{IndexBuffer, nodeBox, leafItems}
-use Rattle.boundary.proofs.AroundLaws.{Number}
+use Rattle.boundary.proofs.AroundLaws.{NotNan}
 use Rattle.search.specs.declared.Best.{Best}
 use Rattle.search.specs.Walk.{bestOf, entryFor, Opened}
-use Rattle.search.proofs.LeastLaws.{Upto, Among, BestIs, best-is, Least}
+use Rattle.search.proofs.LeastLaws.{Upto, Among, BestIs, best-is, LeastOutline}
 use Rattle.search.proofs.GapLaws.{Gapped, Nearby}
 use Rattle.search.proofs.WaitLaws.{treeAt, Waits, waits-items, waits-root, Children, waits-children}
 
 -- a total is positive where one of the weights is
-total-some : (w : Entry → ℕ) (f : ℕ → Entry) (n : ℕ) (A : Type 0) → ((k : ℕ) → k < n → 0 < w (f k) → A) → 0 < total w f n → A
-unfolding total
+total-some : (w : Entry → ℕ) (f : ℕ → Entry) (n : ℕ) (A : Type 0) → ((k : ℕ) → k < n → 0 < w (f k) → A) → 0 < totalWeight w f n → A
+unfolding totalWeight
 total-some w f zero A h l = absurd (omega arith)
 total-some w f (suc n) A h l = go (ℕ-discrete (w (f n)) 0) (total-some w f n A (λ k K. h k (omega arith)))
   where
-    go : Dec (w (f n) ≡ 0) → (0 < total w f n → A) → A
+    go : Dec (w (f n) ≡ 0) → (0 < totalWeight w f n → A) → A
     go (yes e) ih = ih (omega arith)
     go (no a) ih = h n (omega arith) (omega arith)
 
 module _ (B : IndexBuffer) (d : ℕ) (p : Point) (D : ℕ → Float) (n : ℕ) where
-  abbrev pub Ready : Entry → Type 0
-  Ready x = Waits B d p (Nearby D n p) x
+  abbrev pub ReadyNode : Entry → Type 0
+  ReadyNode x = Waits B d p (Nearby D n p) x
 
-  abbrev pub entry : ℕ → Entry
-  entry k = entryFor (B .corners) p k
+  abbrev pub nodeEntry : ℕ → Entry
+  nodeEntry k = entryFor (B .corners) p k
 
   -- how many nodes an entry stands for, and how often i is below it
   unfoldable pub sizeOf : Entry → ℕ
@@ -51,15 +51,15 @@ module _ (B : IndexBuffer) (d : ℕ) (p : Point) (D : ℕ → Float) (n : ℕ) w
 
   pub record Searching (f : ℕ → Entry) (m : ℕ) (best : Best) : Type 0 where
     pub heaped : Heaped f m
-    pub few : total sizeOf f m ≤ 511
-    pub ready : (k : ℕ) → k < m → Ready (f k)
+    pub few : totalWeight sizeOf f m ≤ 511
+    pub ready : (k : ℕ) → k < m → ReadyNode (f k)
     pub among : Among D n best
     -- what is below no node that waits was looked at
-    pub cover : (i : ℕ) → i < n → total (holdsOf i) f m ≡ 0 → Upto D best i
+    pub cover : (i : ℕ) → i < n → totalWeight (holdsOf i) f m ≡ 0 → Upto D best i
 
   -- as many entries as nodes at most
-  entries-few : (f : ℕ → Entry) (m : ℕ) → m ≤ total sizeOf f m
-  unfolding total sizeOf
+  entries-few : (f : ℕ → Entry) (m : ℕ) → m ≤ totalWeight sizeOf f m
+  unfolding totalWeight sizeOf
   entries-few f zero = omega arith
   entries-few f (suc m) = let h = entries-few f m in omega arith
 
@@ -67,22 +67,22 @@ module _ (B : IndexBuffer) (d : ℕ) (p : Point) (D : ℕ → Float) (n : ℕ) w
   searching-few {f} {m} S = let h = entries-few f m in let g = S .few in omega arith
 
   -- ---- the root alone
-  pub searching-first : {f g : ℕ → Entry} {best : Best} → Pushed f 0 (entry 0) g → Ready (entry 0) → sizeOf (entry 0) ≤ 511 → ((i : ℕ) → i < n → 0 < holdsOf i (entry 0)) → Among D n best → Searching g 1 best
-  unfolding total
+  pub searching-first : {f g : ℕ → Entry} {best : Best} → Pushed f 0 (nodeEntry 0) g → ReadyNode (nodeEntry 0) → sizeOf (nodeEntry 0) ≤ 511 → ((i : ℕ) → i < n → 0 < holdsOf i (nodeEntry 0)) → Among D n best → Searching g 1 best
+  unfolding totalWeight
   searching-first {f} {g} H R s h b = record {
     heaped = H .heaped;
     few = let e = H .contents sizeOf in omega arith;
-    ready = all-kept Ready H (λ k K. absurd (omega arith)) R;
+    ready = all-kept ReadyNode H (λ k K. absurd (omega arith)) R;
     among = b;
     cover = λ i l z. let e = H .contents (holdsOf i) in let k = h i l in absurd (omega arith);
   }
 
   -- ---- one is taken
   module _ {f g : ℕ → Entry} {m : ℕ} {x : Entry} {best : Best} (S : Searching f m best) (H : Popped f m x g) where
-    popped-ready : ((k : ℕ) → k < m - 1 → Ready (g k)) × Ready x
-    popped-ready = all-left Ready H (S .ready)
+    popped-ready : ((k : ℕ) → k < m - 1 → ReadyNode (g k)) × ReadyNode x
+    popped-ready = all-left ReadyNode H (S .ready)
 
-    pub popped-less : total sizeOf g (m - 1) < total sizeOf f m
+    pub popped-less : totalWeight sizeOf g (m - 1) < totalWeight sizeOf f m
     unfolding sizeOf
     popped-less = let e = H .contents sizeOf in omega arith
 
@@ -92,7 +92,7 @@ module _ (B : IndexBuffer) (d : ℕ) (p : Point) (D : ℕ → Float) (n : ℕ) w
     item-gap i h = waits-root B d p (Nearby D n p) x (popped-ready .1) i h
 
     -- a leaf's items are looked at
-    module _ (N : (k : ℕ) → k ≤ n → Number (D k)) (leaf : 0 < countAt (B .links) (x .node)) where
+    module _ (N : (k : ℕ) → k ≤ n → NotNan (D k)) (leaf : 0 < countAt (B .links) (x .node)) where
       abbrev looked : List ℕ
       looked = leafItems B (x .node)
 
@@ -115,7 +115,7 @@ module _ (B : IndexBuffer) (d : ℕ) (p : Point) (D : ℕ → Float) (n : ℕ) w
             cover = λ i l z. go i l z b (ℕ-discrete (times i looked) 0);
           }
         where
-          go : (i : ℕ) → i < n → total (holdsOf i) g (m - 1) ≡ 0 → BestIs D n best looked r → Dec (times i looked ≡ 0) → Upto D r i
+          go : (i : ℕ) → i < n → totalWeight (holdsOf i) g (m - 1) ≡ 0 → BestIs D n best looked r → Dec (times i looked ≡ 0) → Upto D r i
           go i l z b (yes y) = let c = H .contents (holdsOf i) in let a = ap (times i) items-are in b .old i (S .cover i l (omega arith))
           go i l z b (no a) = b .new i (omega arith)
 
@@ -127,14 +127,14 @@ module _ (B : IndexBuffer) (d : ℕ) (p : Point) (D : ℕ → Float) (n : ℕ) w
       pub children-small : firstAt (B .links) (x .node) + 2 ≤ 511
       children-small = parts .small
 
-      module _ {k : ℕ → Entry} (O : Opened g (m - 1) (entry (firstAt (B .links) (x .node))) (entry (firstAt (B .links) (x .node) + 1)) k) where
-        all : (w : Entry → ℕ) → total w k (m - 1 + 1 + 1) ≡ total w g (m - 1) + w (entry (firstAt (B .links) (x .node))) + w (entry (firstAt (B .links) (x .node) + 1))
+      module _ {k : ℕ → Entry} (O : Opened g (m - 1) (nodeEntry (firstAt (B .links) (x .node))) (nodeEntry (firstAt (B .links) (x .node) + 1)) k) where
+        all : (w : Entry → ℕ) → totalWeight w k (m - 1 + 1 + 1) ≡ totalWeight w g (m - 1) + w (nodeEntry (firstAt (B .links) (x .node))) + w (nodeEntry (firstAt (B .links) (x .node) + 1))
         all w = let a = O .first .contents w in let b = O .second .contents w in omega arith
 
         three : m - 1 + 1 + 1 ≡ m - 1 + 2
         three = omega arith
 
-        pub opened-less : total sizeOf k (m - 1 + 2) < total sizeOf f m
+        pub opened-less : totalWeight sizeOf k (m - 1 + 2) < totalWeight sizeOf f m
         unfolding sizeOf
         opened-less = let a = rw three at (all sizeOf) in let b = H .contents sizeOf in let c = parts .size in omega arith
 
@@ -143,7 +143,7 @@ module _ (B : IndexBuffer) (d : ℕ) (p : Point) (D : ℕ → Float) (n : ℕ) w
         searching-inner = record {
           heaped = rw three at (O .second .heaped);
           few = let a = S .few in let c = opened-less in omega arith;
-          ready = λ j J. all-kept Ready (O .second) (all-kept Ready (O .first) (popped-ready .0) (parts .first)) (parts .second) j (omega arith);
+          ready = λ j J. all-kept ReadyNode (O .second) (all-kept ReadyNode (O .first) (popped-ready .0) (parts .first)) (parts .second) j (omega arith);
           among = S .among;
           cover = λ i l z.
               let a = rw three at (all (holdsOf i)) in
@@ -162,7 +162,7 @@ module _ (B : IndexBuffer) (d : ℕ) (p : Point) (D : ℕ → Float) (n : ℕ) w
 
       pub upto-above : (i : ℕ) → i < n → Upto D best i
       unfolding holdsOf
-      upto-above i l = go (ℕ-discrete (holdsOf i x) 0) (ℕ-discrete (total (holdsOf i) g (m - 1)) 0)
+      upto-above i l = go (ℕ-discrete (holdsOf i x) 0) (ℕ-discrete (totalWeight (holdsOf i) g (m - 1)) 0)
         where
           waiting : (k : ℕ) → k < m - 1 → 0 < holdsOf i (g k) → Upto D best i
           waiting k K h =
@@ -170,18 +170,18 @@ module _ (B : IndexBuffer) (d : ℕ) (p : Point) (D : ℕ → Float) (n : ℕ) w
               let q : T (le (g k .gap) (D i)) = rw (w .gap) (waits-root B d p (Nearby D n p) (g k) w i h .gap) in
               farther i (le-through (x .gap) (g k .gap) (D i) (popped-gap H k K) q)
 
-          go : Dec (holdsOf i x ≡ 0) → Dec (total (holdsOf i) g (m - 1) ≡ 0) → Upto D best i
+          go : Dec (holdsOf i x ≡ 0) → Dec (totalWeight (holdsOf i) g (m - 1) ≡ 0) → Upto D best i
           go (no a) t = farther i (rw (popped-ready .1 .gap) (item-gap i (omega arith) .gap))
           go (yes e) (no a) = total-some (holdsOf i) g (m - 1) (Upto D best i) waiting (omega arith)
           go (yes e) (yes z) = let c = H .contents (holdsOf i) in S .cover i l (omega arith)
 
   -- nothing waits
   pub upto-none : {f : ℕ → Entry} {m : ℕ} {best : Best} → Searching f m best → m ≤ 0 → (i : ℕ) → i < n → Upto D best i
-  unfolding total
-  upto-none {f} {m} S z i l = let e : m ≡ 0 = omega arith in S .cover i l (ap (total (holdsOf i) f) e)
+  unfolding totalWeight
+  upto-none {f} {m} S z i l = let e : m ≡ 0 = omega arith in S .cover i l (ap (totalWeight (holdsOf i) f) e)
 
   -- THE END: the best is the least
-  pub search-least : {best : Best} → 0 < n → lt (D 0) (inf false) ≡ true → D n ≡ inf false → Among D n best → ((i : ℕ) → i < n → Upto D best i) → Least D n best
+  pub search-least : {best : Best} → 0 < n → lt (D 0) (inf false) ≡ true → D n ≡ inf false → Among D n best → ((i : ℕ) → i < n → Upto D best i) → LeastOutline D n best
   search-least {best} s finite past A u = record { within = place (ℕ-discrete (best .outline) n); is = A .is; upto = u }
     where
       place : Dec (best .outline ≡ n) → best .outline < n

@@ -15,7 +15,7 @@ use Rattle.boundary.specs.declared.Bounds.{Bounds}
 use Rattle.boundary.specs.Boxes.{FieldPoint, gapAlong, gapOf}
 use Rattle.heap.specs.declared.Entry.{Entry}
 use Rattle.heap.specs.Heap.{Pushed}
-use Rattle.boundary.proofs.AroundLaws.{Number}
+use Rattle.boundary.proofs.AroundLaws.{NotNan}
 use Rattle.index.specs.Buffer.{IndexBuffer}
 use Rattle.set.specs.Set.{Outline, Fitting, DoubleSet}
 use Rattle.search.specs.declared.Best.{Best}
@@ -24,14 +24,14 @@ use Rattle.search.specs.Walk.{Searched, entryFor}
 use Rattle.search.proofs.LeastLaws.{Upto, Among, least-of, least-only}
 use Rattle.search.proofs.GapLaws.{Nearby, set-magnitude, past-magnitude, magnitude-number, tree-gaps}
 use Rattle.search.proofs.WaitLaws.{treeAt, read-stands, waits-of}
-use Rattle.search.proofs.SearchLaws.{Ready, sizeOf, holdsOf, Searching, searching-first, search-least}
+use Rattle.search.proofs.SearchLaws.{ReadyNode, sizeOf, holdsOf, Searching, searching-first, search-least}
 
 -- ---- a gap is a number
-along-number : (lo hi p : Float) → Number (gapAlong lo hi p)
+along-number : (lo hi p : Float) → NotNan (gapAlong lo hi p)
 unfolding gapAlong
 along-number lo hi p = right-not-nan zeroᶠ (gapAlong lo hi p) (le-max-right (maxOf (sub binary64 lo p) (sub binary64 p hi)) zeroᶠ (unfold isNan in tt))
 
-pub gap-number : (b : Bounds) (p : Point) → Number (gapOf b p)
+pub gap-number : (b : Bounds) (p : Point) → NotNan (gapOf b p)
 unfolding gapOf
 gap-number b p = hypot-not-nan (gapAlong (b .min .x) (b .max .x) (p .x)) (gapAlong (b .min .y) (b .max .y) (p .y)) (along-number (b .min .x) (b .max .x) (p .x)) (along-number (b .min .y) (b .max .y) (p .y))
 
@@ -43,15 +43,15 @@ module _ (os : List Outline) (fit : Fitting os) (held : DoubleSet os) (p : Point
   abbrev D : ℕ → Float
   D = magnitudeAt os p
 
-  pub numbers : (k : ℕ) → k ≤ length os → Number (D k)
-  numbers = magnitude-number os fit held p P
+  pub magnitude-numbers : (k : ℕ) → k ≤ length os → NotNan (D k)
+  magnitude-numbers = magnitude-number os fit held p P
 
   -- ---- the root
   module _ (B : IndexBuffer) (X : Searched os B) where
     root-is : treeAt B most 0 ≡ X .tree
     root-is = let f = X .few in read-stands B (X .tree) most 0 (X .stands) (omega arith)
 
-    root-ready : Ready B most p D (length os) (entryFor (B .corners) p 0)
+    root-ready : ReadyNode B most p D (length os) (entryFor (B .corners) p 0)
     root-ready = let f = X .few in waits-of B most p (Nearby D (length os) p) (X .tree) 0 (X .stands) (omega arith) (tree-gaps os fit held p P (X .tree) (X .covers) (X .held))
 
     root-size : sizeOf B most p D (length os) (entryFor (B .corners) p 0) ≤ 511
@@ -71,4 +71,4 @@ module _ (os : List Outline) (fit : Fitting os) (held : DoubleSet os) (p : Point
     set-search-end some best A u =
         least-only D (length os) best (leastIn os p)
         (search-least B most p D (length os) some (set-magnitude os fit held p P 0 some .finite) (past-magnitude os fit held p P) A u)
-        (least-of D (length os) some (λ k l. numbers k (omega arith)))
+        (least-of D (length os) some (λ k l. magnitude-numbers k (omega arith)))

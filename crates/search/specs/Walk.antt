@@ -12,8 +12,8 @@ use Rattle.boundary.specs.Boxes.{Around, pointInField, widenedOf, gapOf, Double
 use Rattle.lists.specs.Lists.{fold, In}
 use Rattle.heap.specs.declared.Entry.{Entry}
 use Rattle.heap.specs.Heap.{Pushed}
-use Rattle.entries.specs.Entries.{boxAt}
-use Rattle.splits.specs.Tree.{Tree, itemsOf, EachNode}
+use Rattle.boxes.specs.BoxLists.{boxAt}
+use Rattle.tree.specs.Tree.{Tree, itemsOf, EachNode}
 use Rattle.nodes.specs.Layout.{extra}
 use Rattle.index.specs.Buffer.{IndexBuffer, Stands}
 use Rattle.set.specs.Set.{Outline, startOf, outlinesOf, setBox, Fitting, DoubleSet}

@@ -9,9 +9,9 @@ ghost use Rattle.boundary.specs.Boxes.{inField, pointInField, gapAlong, gapOf};
 ghost use Rattle.lists.specs.Lists.{run, any, In};
 ghost use Rattle.distance.specs.Nearest.{nearestOf};
 ghost use Rattle.boundary.specs.Outline.{count, edges};
-ghost use Rattle.heap.specs.Order.{Number};
+ghost use Rattle.heap.specs.Order.{NumberGap};
 ghost use Rattle.heap.specs.Heap.{entryAt, Heaped};
-ghost use Rattle.entries.specs.Entries.{boxAt};
+ghost use Rattle.boxes.specs.BoxLists.{boxAt};
 ghost use Rattle.nodes.specs.Layout.{itemAt};
 ghost use Rattle.index.specs.Buffer.{buffer};
 ghost use Rattle.number.specs.Exact.{Doubles};
@@ -40,7 +40,7 @@ fn gap_along(lo: f64, hi: f64, p: f64) -> f64
 fn gap(corners: &[f64], n: u32, p: Point) -> f64
     ensures { λ r. ⌜ r ≡ gapOf (boxAt (now (corners .entry)) n) p ⌝ }
 {
-    let b = entries::box_at(corners, n as usize);
+    let b = boxes::box_at(corners, n as usize);
     let x = gap_along(b.min.x, b.max.x, p.x);
     hypot(x, gap_along(b.min.y, b.max.y, p.y))
 }
@@ -121,7 +121,7 @@ fn look(
 // The nodes first and first + 1 wait.
 fn wait_both(corners: &[f64], p: Point, first: u32, nodes: &mut [u32], gaps: &mut [f64], n: usize)
     requires { ⌜ ((n + 1 < length (now nodes)) × (n + 1 < length (now gaps))) × (first + 1 < 2 ^ 32) × (Heaped (entryAt (now nodes) (now gaps)) n
-        × (Number (entryFor (now corners) p first) × Number (entryFor (now corners) p (first + 1)))) ⌝ }
+        × (NumberGap (entryFor (now corners) p first) × NumberGap (entryFor (now corners) p (first + 1)))) ⌝ }
     ensures { λ _. ⌜ Opened (entryAt (now (nodes .entry)) (now (gaps .entry))) n (entryFor (now (corners .entry)) p first) (entryFor (now (corners .entry)) p (first + 1)) (entryAt (now (nodes .exit)) (now (gaps .exit))) ⌝ }
 {
     heap::push(nodes, gaps, n, first, gap(corners, first, p));

@@ -12,7 +12,7 @@ use lib.Ieee.Fits.{and-i}
 use Rattle.number.proofs.OrderLaws.{le-self, le-through}
 use Rattle.boundary.specs.declared.Point.{Point}
 use Rattle.boundary.specs.declared.Bounds.{Bounds}
-use Rattle.boundary.specs.Boxes.{PointOf, BoxOf, inField, lesser, greater, hull, nowhere, stretched}
+use Rattle.boundary.specs.Boxes.{PointOf, BoxOf, inField, lesser, greater, hull, emptyBox, stretched}
 use Rattle.lists.specs.Lists.{run, fold}
 use Rattle.boundary.specs.Outline.{count, vertexAt, vertices}
 use Rattle.number.proofs.Basics.{one-of}
@@ -74,12 +74,12 @@ module _ (P : Float → Type 0) (field : (x : Float) → P x → InField x) wher
   spanned-run g i zero b s h = s
   spanned-run g i (suc k) b s h = spanned-run g (suc i) k (stretched b (g i)) (spanned-more b (g i) s (h i (omega arith))) (λ j l. h j (omega arith))
 
-  spanned-all : (g : ℕ → Point) (n : ℕ) → 0 < n → ((j : ℕ) → j < n → PointOf P (g j)) → Spanned (fold stretched nowhere (run g 0 n))
+  spanned-all : (g : ℕ → Point) (n : ℕ) → 0 < n → ((j : ℕ) → j < n → PointOf P (g j)) → Spanned (fold stretched emptyBox (run g 0 n))
   unfolding run fold hull
   spanned-all g zero l h = absurd (omega arith)
   spanned-all g (suc n) l h =
       let p = h 0 (omega arith) in
-      spanned-run g 1 n (stretched nowhere (g 0)) (record { x = span-first (g 0 .x) (p .x); y = span-first (g 0 .y) (p .y) }) (λ j m. h j (omega arith))
+      spanned-run g 1 n (stretched emptyBox (g 0)) (record { x = span-first (g 0 .x) (p .x); y = span-first (g 0 .y) (p .y) }) (λ j m. h j (omega arith))
 
   -- the box of an outline
   pub bounds-spanned : (o : List Float) → 0 < count o → ((i : ℕ) → i < length o → P (getD o i nan)) → Spanned (boundsOf (vertices o))

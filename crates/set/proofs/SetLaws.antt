@@ -20,12 +20,12 @@ use Rattle.accept.specs.declared.Test.{Test}
 use Rattle.accept.specs.declared.Test.the-variants.{Passed}
 use Rattle.accept.specs.Refusals.{notFinite, outsideField, equalNeighbours, zeroArea, negativeArea}
 use Rattle.accept.proofs.TestLaws.{refusing-passed}
-use Rattle.entries.specs.Entries.{boxCount, boxAt, boxNumbers, boxesOf}
+use Rattle.boxes.specs.BoxLists.{boxCount, boxAt, boxNumbers, boxesOf}
 use Rattle.boundary.specs.Boxes.{boxFits}
 use Rattle.index.specs.Answers.{boxesTested}
 use Rattle.lists.proofs.StoreLaws.{flat-length}
 use Rattle.lists.proofs.RunLaws.{length-run, run-at}
-use Rattle.entries.proofs.EntryLaws.{box-held}
+use Rattle.boxes.proofs.EntryLaws.{box-held}
 use Rattle.number.specs.Exact.{Doubles}
 use Rattle.set.specs.Set.{Outline, startOf, outlineAt, outlinesOf, outlineIn, outlineBox, setBox, setBoxes, Fit, Fitting, DoubleSet}
 use Rattle.set.specs.Tests.{addsUp, anyMany, overSize, listsTested, outlinesTested, setTested}

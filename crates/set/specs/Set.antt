@@ -11,7 +11,7 @@ use Rattle.lists.specs.Lists.{run, any}
 use Rattle.boundary.specs.Outline.{count, vertices}
 use Rattle.accept.specs.Refusals.{outsideField}
 use Rattle.geometry.specs.Polygon.{boundsOf}
-use Rattle.entries.specs.Entries.{boxNumbers}
+use Rattle.boxes.specs.BoxLists.{boxNumbers}
 
 -- an outline: x and y of each vertex, one vertex after the other
 abbrev pub Outline : Type 0

@@ -6,7 +6,7 @@ ghost use lib.Seq.{sets};
 ghost use Rattle.lists.specs.Lists.{run};
 ghost use Rattle.boundary.specs.Outline.{vertices};
 ghost use Rattle.geometry.specs.Polygon.{boundsOf};
-ghost use Rattle.entries.specs.Entries.{boxNumbers};
+ghost use Rattle.boxes.specs.BoxLists.{boxNumbers};
 ghost use Rattle.set.specs.Set.{startOf, outlinesOf, outlineIn, setBoxes};
 ghost use Rattle.set.specs.Answers.{Starts};
 use geometry::polygon;
@@ -51,7 +51,7 @@ fn put_box(v: &[f64], at: usize, end: usize, boxes: &mut [f64], k: usize)
     requires { ⌜ (at ≤ end) × (end ≤ length (now v)) × (k < 2 ^ 32) ⌝ }
     ensures { λ _. ⌜ now (boxes .exit) ≡ sets (now (boxes .entry)) (4 * k) (boxNumbers (boundsOf (vertices (take (end - at) (drop at (now (v .entry))))))) ⌝ }
 {
-    entries::put_box(boxes, k, polygon::box_of(outline_from(v, at, end)));
+    boxes::put_box(boxes, k, polygon::box_of(outline_from(v, at, end)));
 }
 
 // The boxes of all outlines.

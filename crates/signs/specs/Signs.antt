@@ -25,18 +25,18 @@ unfolding withSign signBit
 copysignOf x y = withSign (signBit y) x
 
 -- x stands before y: it is less, or the two are equal and x has the sign, so that -0 stands before +0
-unfoldable pub before : Float → Float → Bool
+unfoldable pub standsBefore : Float → Float → Bool
 unfolding lt eq signBit
-before x y = lt x y || (eq x y && signBit x)
+standsBefore x y = lt x y || (eq x y && signBit x)
 
 -- IEEE 754-2019's minimumNumber and maximumNumber: a number wins over a NaN, and -0 is below +0
 unfoldable pub minOf : Float → Float → Float
-unfolding isNan before
-minOf x y = cond (isNan x) y (cond (isNan y || before x y) x y)
+unfolding isNan standsBefore
+minOf x y = cond (isNan x) y (cond (isNan y || standsBefore x y) x y)
 
 unfoldable pub maxOf : Float → Float → Float
-unfolding isNan before
-maxOf x y = cond (isNan x) y (cond (isNan y || before y x) x y)
+unfolding isNan standsBefore
+maxOf x y = cond (isNan x) y (cond (isNan y || standsBefore y x) x y)
 
 -- lo where x is below it, hi where x is above it, and x otherwise: also where x is NaN
 unfoldable pub clampOf : Float → Float → Float → Float

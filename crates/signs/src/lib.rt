@@ -2,7 +2,7 @@
 ghost use mathlib.Core.Path.{_≡_};
 ghost use mathlib.Core.Bool.{cond};
 ghost use lib.Ieee.{isNan};
-ghost use Rattle.signs.specs.Signs.{signBit, absOf, copysignOf, before, minOf, maxOf, clampOf};
+ghost use Rattle.signs.specs.Signs.{signBit, absOf, copysignOf, standsBefore, minOf, maxOf, clampOf};
 
 // a where c holds, and b where it does not.
 pub fn pick(c: bool, a: f64, b: f64) -> f64
@@ -41,7 +41,7 @@ pub fn copysign(x: f64, y: f64) -> f64
 
 // Whether a is less than b, or equals it with the sign bit set.
 fn is_before(a: f64, b: f64) -> bool
-    ensures { λ r. ⌜ r ≡ before a b ⌝ }
+    ensures { λ r. ⌜ r ≡ standsBefore a b ⌝ }
 {
     (a < b) | ((a == b) & sign_bit(a))
 }

@@ -11,7 +11,7 @@ use borrow.Author.Tests.{le-leb, leb-true, leb-false}
 use Rattle.number.specs.Exact.{zeroᶠ}
 use Rattle.signs.specs.Signs.{signBit}
 use Rattle.number.proofs.OrderLaws.{le-not-below, le-through, not-below, below-le, level-le, below-through, above-sign, under-sign}
-use Rattle.sorts.specs.Keys.{totalLess, goesBy, goes, ahead}
+use Rattle.sorts.specs.Keys.{totalLess, precedesBy, precedes, ahead}
 
 -- ---- of floats that are no NaN
 abbrev Number : Float → Type 0
@@ -114,13 +114,13 @@ not-less-trans x y z e f = go (nan-or x) (nan-or y) (nan-or z)
 
 -- ---- the order by key and then by number
 
--- what `goesBy` says
+-- what `precedesBy` says
 record Says (x y : Float) (a b : ℕ) : Type 0 where
   first : totalLess y x ≡ false
   tie : totalLess x y ≡ false → a ≤ b
 
-says : (x y : Float) (a b : ℕ) → goesBy x y a b ≡ true → Says x y a b
-unfolding goesBy
+says : (x y : Float) (a b : ℕ) → precedesBy x y a b ≡ true → Says x y a b
+unfolding precedesBy
 says x y a b = go (totalLess x y) refl (totalLess y x) refl
   where
     go : (p : Bool) → totalLess x y ≡ p → (q : Bool) → totalLess y x ≡ q → cond p true (cond q false (leb a b)) ≡ true → Says x y a b
@@ -128,16 +128,16 @@ says x y a b = go (totalLess x y) refl (totalLess y x) refl
     go false h true k e = absurd (false≢true e)
     go false h false k e = record { first = k; tie = λ _. leb-true a b e }
 
-holds : (x y : Float) (a b : ℕ) → Says x y a b → goesBy x y a b ≡ true
-unfolding goesBy
+holds : (x y : Float) (a b : ℕ) → Says x y a b → precedesBy x y a b ≡ true
+unfolding precedesBy
 holds x y a b s = rw (s .first) (go (totalLess x y) refl)
   where
     go : (p : Bool) → totalLess x y ≡ p → cond p true (leb a b) ≡ true
     go true h = refl
     go false h = le-leb a b (s .tie h)
 
-not-says : (x y : Float) (a b : ℕ) → goesBy x y a b ≡ false → Says y x b a
-unfolding goesBy
+not-says : (x y : Float) (a b : ℕ) → precedesBy x y a b ≡ false → Says y x b a
+unfolding precedesBy
 not-says x y a b = go (totalLess x y) refl (totalLess y x) refl
   where
     go : (p : Bool) → totalLess x y ≡ p → (q : Bool) → totalLess y x ≡ q → cond p true (cond q false (leb a b)) ≡ false → Says y x b a
@@ -155,13 +155,13 @@ through x y z a b c s t = record {
 }
 
 module _ (key : ℕ → Float) where
-  pub goes-total : (a b : ℕ) → goes key a b ≡ false → goes key b a ≡ true
+  pub goes-total : (a b : ℕ) → precedes key a b ≡ false → precedes key b a ≡ true
   goes-total a b e = holds (key b) (key a) b a (not-says (key a) (key b) a b e)
 
-  pub goes-trans : (a b c : ℕ) → goes key a b ≡ true → goes key b c ≡ true → goes key a c ≡ true
+  pub goes-trans : (a b c : ℕ) → precedes key a b ≡ true → precedes key b c ≡ true → precedes key a c ≡ true
   goes-trans a b c e f = holds (key a) (key c) a c (through (key a) (key b) (key c) a b c (says (key a) (key b) a b e) (says (key b) (key c) b c f))
 
-  pub goes-antisym : (a b : ℕ) → goes key a b ≡ true → goes key b a ≡ true → a ≡ b
+  pub goes-antisym : (a b : ℕ) → precedes key a b ≡ true → precedes key b a ≡ true → a ≡ b
   goes-antisym a b e f =
       let s = says (key a) (key b) a b e in
       let t = says (key b) (key a) b a f in
@@ -170,10 +170,10 @@ module _ (key : ℕ → Float) where
       omega arith
 
   -- what goes before a pivot goes before what does not
-  pub ahead-goes : (v : Float) (t a b : ℕ) → ahead key v t a ≡ true → ahead key v t b ≡ false → goes key a b ≡ true
+  pub ahead-goes : (v : Float) (t a b : ℕ) → ahead key v t a ≡ true → ahead key v t b ≡ false → precedes key a b ≡ true
   ahead-goes v t a b e f =
-      let s = not-says v (key a) t a (not-true (goesBy v (key a) t a) e) in
-      let r = says v (key b) t b (not-false (goesBy v (key b) t b) f) in
+      let s = not-says v (key a) t a (not-true (precedesBy v (key a) t a) e) in
+      let r = says v (key b) t b (not-false (precedesBy v (key b) t b) f) in
       holds (key a) (key b) a b (through (key a) v (key b) a t b s r)
     where
       not-true : (c : Bool) → not c ≡ true → c ≡ false
@@ -185,16 +185,16 @@ module _ (key : ℕ → Float) where
       not-false false e = absurd (true≢false e)
 
 -- ---- what the code's quick tests say
-pub goes-less : (x y : Float) (a b : ℕ) → lt x y ≡ true → true ≡ goesBy x y a b
-unfolding goesBy totalLess
+pub goes-less : (x y : Float) (a b : ℕ) → lt x y ≡ true → true ≡ precedesBy x y a b
+unfolding precedesBy totalLess
 goes-less x y a b e = rw e
 
 less-of : (x y : Float) → lt x y ≡ true → totalLess x y ≡ true
 unfolding totalLess
 less-of x y e = rw e
 
-pub goes-more : (x y : Float) (a b : ℕ) → lt y x ≡ true → false ≡ goesBy x y a b
-unfolding goesBy
+pub goes-more : (x y : Float) (a b : ℕ) → lt y x ≡ true → false ≡ precedesBy x y a b
+unfolding precedesBy
 goes-more x y a b e = rw (less-asym y x (less-of y x e), less-of y x e)
 
 -- ---- a pivot that is the number 0 with a key other than zero: before it goes just what has a lesser key
@@ -212,8 +212,8 @@ unequal-level v k h l s = go (lt v zeroᶠ) refl h
     go true e z = under-sign v e
     go false e z = absurd (false≢true (sym (above-sign k (is-true (lt zeroᶠ k) (below-through zeroᶠ v k (subst T (sym z) tt) l))) ∙ s))
 
-pub goes-plain : (v k : Float) (x : ℕ) → (lt v zeroᶠ || lt zeroᶠ v) ≡ true → lt k v ≡ false → true ≡ goesBy v k 0 x
-unfolding goesBy
+pub goes-plain : (v k : Float) (x : ℕ) → (lt v zeroᶠ || lt zeroᶠ v) ≡ true → lt k v ≡ false → true ≡ precedesBy v k 0 x
+unfolding precedesBy
 goes-plain v k x h e = rw (not-less (nan-or k)) (first (totalLess v k))
   where
     not-less : (k ≡ nan) ⊎ Number k → totalLess k v ≡ false

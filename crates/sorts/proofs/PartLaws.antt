@@ -13,7 +13,7 @@ use lib.Ieee.{Float}
 use borrow.Author.Tests.{le-leb, leb-true, leb-false}
 use Rattle.lists.specs.Lists.{Every}
 use Rattle.sorts.specs.Sort.{insert, sort, keep, others, Dealt, Sorted, halves}
-use Rattle.sorts.specs.Keys.{goesBy, goes, ahead, aheadBit}
+use Rattle.sorts.specs.Keys.{precedesBy, precedes, ahead, aheadBit}
 use Rattle.sorts.proofs.Lists.{rest-of, whole-of}
 use Rattle.sorts.proofs.SortLaws.{length-sort}
 use Rattle.sorts.proofs.Order.{goes-total, goes-trans, goes-antisym, ahead-goes}
@@ -104,7 +104,7 @@ keep-last p (x ∷ xs) y = go (p x) (keep-last p xs y)
 
 pub ahead-le : (v k : Float) (t x : ℕ) → aheadBit v k t x ≤ 1
 unfolding aheadBit
-ahead-le v k t x = go (goesBy v k t x)
+ahead-le v k t x = go (precedesBy v k t x)
   where
     go : (b : Bool) → cond b 0 1 ≤ 1
     go true = omega arith
@@ -160,7 +160,7 @@ module _ (p : ℕ → Bool) (s₀ t₀ s t : List ℕ) (a i y : ℕ) (d : Dealt 
 pub dealt-next : (key : ℕ → Float) (v : Float) (x : ℕ) (s₀ t₀ s t : List ℕ) (a i y : ℕ) → Dealt (ahead key v x) s₀ t₀ s t a i → i < length s → length s₀ ≤ length t₀ → y ≡ getD s i 0
     → Dealt (ahead key v x) s₀ t₀ (set s a y) (set t (i - a) y) (a + aheadBit v (key y) x y) (i + 1)
 unfolding aheadBit
-dealt-next key v x s₀ t₀ s t a i y d h fit ey = dealt-more (ahead key v x) s₀ t₀ s t a i y d h fit ey (goesBy v (key y) x y) refl (cond (goesBy v (key y) x y) 0 1) refl
+dealt-next key v x s₀ t₀ s t a i y d h fit ey = dealt-more (ahead key v x) s₀ t₀ s t a i y d h fit ey (precedesBy v (key y) x y) refl (cond (precedesBy v (key y) x y) 0 1) refl
 
 -- all dealt, and the others appended
 pub dealt-all : (p : ℕ → Bool) (s₀ t₀ s t : List ℕ) (a : ℕ) → Dealt p s₀ t₀ s t a (length s₀) → (take a s ≡ keep p s₀) × (take (length s₀ - a) t ≡ others p s₀) × (a ≡ length (keep p s₀))
@@ -285,25 +285,25 @@ ascending = sorted-sort leb leb-total leb-trans
 
 -- ---- by a key
 module _ (key : ℕ → Float) where
-  pub goes-again : (g : ℕ → ℕ → Bool) (xs : List ℕ) → sort (goes key) (sort g xs) ≡ sort (goes key) xs
-  goes-again = sort-again (goes key) (goes-total key) (goes-trans key) (goes-antisym key)
+  pub goes-again : (g : ℕ → ℕ → Bool) (xs : List ℕ) → sort (precedes key) (sort g xs) ≡ sort (precedes key) xs
+  goes-again = sort-again (precedes key) (goes-total key) (goes-trans key) (goes-antisym key)
 
-  pub halves-parted : (p : ℕ → Bool) (m : ℕ) (xs : List ℕ) → halves (goes key) m (keep p xs ++ others p xs) ≡ halves (goes key) m xs
+  pub halves-parted : (p : ℕ → Bool) (m : ℕ) (xs : List ℕ) → halves (precedes key) m (keep p xs ++ others p xs) ≡ halves (precedes key) m xs
   unfolding halves
-  halves-parted p m xs = rw (sort-parted (goes key) (goes-total key) (goes-trans key) (goes-antisym key) p xs)
+  halves-parted p m xs = rw (sort-parted (precedes key) (goes-total key) (goes-trans key) (goes-antisym key) p xs)
 
   -- what a pivot parts, of a list in ascending order, are its halves where they have the halves' lengths
   pub parted-halves : (v : Float) (t m : ℕ) (xs : List ℕ) → Sorted leb xs → length (keep (ahead key v t) xs) ≡ m
-      → keep (ahead key v t) xs ++ others (ahead key v t) xs ≡ halves (goes key) m xs
+      → keep (ahead key v t) xs ++ others (ahead key v t) xs ≡ halves (precedes key) m xs
   unfolding halves
   parted-halves v t m xs s e =
       let p = ahead key v t in
       let A = keep p xs in
       let B = others p xs in
-      let parts = sort-parts (goes key) (goes-total key) (goes-trans key) (goes-antisym key) p (ahead-goes key v t) xs in
-      let n : length (sort (goes key) A) ≡ m = length-sort (goes key) A ∙ e in
-      let one : sort leb (take m (sort (goes key) xs)) ≡ A = ap (λ (l : List ℕ). sort leb (take m l)) parts ∙ ap (sort leb) (take-at (sort (goes key) A) (sort (goes key) B) m n) ∙ ascend-again (goes key) A ∙ sort-sorted leb A (sorted-keep leb p xs s) in
-      let two : sort leb (drop m (sort (goes key) xs)) ≡ B = ap (λ (l : List ℕ). sort leb (drop m l)) parts ∙ ap (sort leb) (drop-at (sort (goes key) A) (sort (goes key) B) m n) ∙ ascend-again (goes key) B ∙ sort-sorted leb B (sorted-keep leb (λ x. not (p x)) xs s) in
+      let parts = sort-parts (precedes key) (goes-total key) (goes-trans key) (goes-antisym key) p (ahead-goes key v t) xs in
+      let n : length (sort (precedes key) A) ≡ m = length-sort (precedes key) A ∙ e in
+      let one : sort leb (take m (sort (precedes key) xs)) ≡ A = ap (λ (l : List ℕ). sort leb (take m l)) parts ∙ ap (sort leb) (take-at (sort (precedes key) A) (sort (precedes key) B) m n) ∙ ascend-again (precedes key) A ∙ sort-sorted leb A (sorted-keep leb p xs s) in
+      let two : sort leb (drop m (sort (precedes key) xs)) ≡ B = ap (λ (l : List ℕ). sort leb (drop m l)) parts ∙ ap (sort leb) (drop-at (sort (precedes key) A) (sort (precedes key) B) m n) ∙ ascend-again (precedes key) B ∙ sort-sorted leb B (sorted-keep leb (λ x. not (p x)) xs s) in
       sym (ap₂ (λ (l k : List ℕ). l ++ k) one two)
 
 -- the first m ascending, then the others

@@ -11,7 +11,7 @@ use lib.Ieee.{Float}
 use borrow.Author.Tests.{eqb-true, eq-eqb}
 use Rattle.lists.specs.Lists.{Every, times, In}
 use Rattle.sorts.specs.Sort.{insert, sort, halves, Sorted, Selected}
-use Rattle.sorts.specs.Keys.{goes}
+use Rattle.sorts.specs.Keys.{precedes}
 use Rattle.lists.proofs.MemberLaws.{times-append}
 use Rattle.sorts.proofs.SortLaws.{length-sort, times-sort}
 use Rattle.sorts.proofs.Order.{goes-total, goes-trans, goes-antisym}
@@ -85,36 +85,36 @@ sorted-parted le (suc m) (x ∷ xs) s = (each-drop (λ b. le x b ≡ true) m xs 
 
 -- ---- by a key
 module _ (key : ℕ → Float) where
-  goes-same : (xs ys : List ℕ) → ((i : ℕ) → times i ys ≡ times i xs) → sort (goes key) ys ≡ sort (goes key) xs
-  goes-same = sort-same (goes key) (goes-total key) (goes-trans key) (goes-antisym key)
+  goes-same : (xs ys : List ℕ) → ((i : ℕ) → times i ys ≡ times i xs) → sort (precedes key) ys ≡ sort (precedes key) xs
+  goes-same = sort-same (precedes key) (goes-total key) (goes-trans key) (goes-antisym key)
 
   -- what a selection of the first m leaves
-  module _ (m : ℕ) (xs ys : List ℕ) (fit : m ≤ length xs) (s : Selected (goes key) m xs ys) where
-    sorted-parts : sort (goes key) xs ≡ sort (goes key) (take m ys) ++ sort (goes key) (drop m ys)
-    sorted-parts = sym (goes-same xs ys (s .same)) ∙ ap (sort (goes key)) (sym (take-append-drop m ys)) ∙ sort-apart (goes key) (take m ys) (drop m ys) (s .parted)
+  module _ (m : ℕ) (xs ys : List ℕ) (fit : m ≤ length xs) (s : Selected (precedes key) m xs ys) where
+    sorted-parts : sort (precedes key) xs ≡ sort (precedes key) (take m ys) ++ sort (precedes key) (drop m ys)
+    sorted-parts = sym (goes-same xs ys (s .same)) ∙ ap (sort (precedes key)) (sym (take-append-drop m ys)) ∙ sort-apart (precedes key) (take m ys) (drop m ys) (s .parted)
 
-    first-length : length (sort (goes key) (take m ys)) ≡ m
+    first-length : length (sort (precedes key) (take m ys)) ≡ m
     first-length =
-        let a = length-sort (goes key) xs in
-        let b = length-sort (goes key) ys in
+        let a = length-sort (precedes key) xs in
+        let b = length-sort (precedes key) ys in
         let c = ap length (goes-same xs ys (s .same)) in
-        length-sort (goes key) (take m ys) ∙ length-take-le m ys (omega arith)
+        length-sort (precedes key) (take m ys) ∙ length-take-le m ys (omega arith)
 
     -- its two parts, put in ascending order, are those of the sorted list
-    pub selected-first : sort leb (take m ys) ≡ sort leb (take m (sort (goes key) xs))
-    selected-first = sym (ap (λ (l : List ℕ). sort leb (take m l)) sorted-parts ∙ ap (sort leb) (take-at (sort (goes key) (take m ys)) (sort (goes key) (drop m ys)) m first-length) ∙ ascend-again (goes key) (take m ys))
+    pub selected-first : sort leb (take m ys) ≡ sort leb (take m (sort (precedes key) xs))
+    selected-first = sym (ap (λ (l : List ℕ). sort leb (take m l)) sorted-parts ∙ ap (sort leb) (take-at (sort (precedes key) (take m ys)) (sort (precedes key) (drop m ys)) m first-length) ∙ ascend-again (precedes key) (take m ys))
 
-    pub selected-rest : sort leb (drop m ys) ≡ sort leb (drop m (sort (goes key) xs))
-    selected-rest = sym (ap (λ (l : List ℕ). sort leb (drop m l)) sorted-parts ∙ ap (sort leb) (drop-at (sort (goes key) (take m ys)) (sort (goes key) (drop m ys)) m first-length) ∙ ascend-again (goes key) (drop m ys))
+    pub selected-rest : sort leb (drop m ys) ≡ sort leb (drop m (sort (precedes key) xs))
+    selected-rest = sym (ap (λ (l : List ℕ). sort leb (drop m l)) sorted-parts ∙ ap (sort leb) (drop-at (sort (precedes key) (take m ys)) (sort (precedes key) (drop m ys)) m first-length) ∙ ascend-again (precedes key) (drop m ys))
 
     -- so the halves that the build is defined by are what the selection leaves
-    pub selected-halves : sort leb (take m ys) ++ sort leb (drop m ys) ≡ halves (goes key) m xs
+    pub selected-halves : sort leb (take m ys) ++ sort leb (drop m ys) ≡ halves (precedes key) m xs
     unfolding halves
     selected-halves = ap₂ (λ (l k : List ℕ). l ++ k) selected-first selected-rest
 
   -- a sort is a selection, so there is one of every list
-  pub sort-selected : (m : ℕ) (xs : List ℕ) → Selected (goes key) m xs (sort (goes key) xs)
+  pub sort-selected : (m : ℕ) (xs : List ℕ) → Selected (precedes key) m xs (sort (precedes key) xs)
   sort-selected m xs = record {
-    same = λ i. times-sort (goes key) i xs;
-    parted = sorted-parted (goes key) m (sort (goes key) xs) (sorted-sort (goes key) (goes-total key) (goes-trans key) xs);
+    same = λ i. times-sort (precedes key) i xs;
+    parted = sorted-parted (precedes key) m (sort (precedes key) xs) (sorted-sort (precedes key) (goes-total key) (goes-trans key) xs);
   }

@@ -8,11 +8,11 @@ use lib.Dec.{leb, eqb}
 use lib.ListN.{length}
 use Rattle.lists.specs.Lists.{times}
 use Rattle.sorts.specs.Sort.{insert, sort}
-use Rattle.sorts.specs.Keys.{totalLess, goesBy, goes, keyIn}
+use Rattle.sorts.specs.Keys.{totalLess, precedesBy, precedes, keyIn}
 
 -- with no keys the order is by number
-pub sort-unkeyed : (xs : List ℕ) → sort (goes (keyIn [])) xs ≡ sort leb xs
-unfolding goesBy totalLess
+pub sort-unkeyed : (xs : List ℕ) → sort (precedes (keyIn [])) xs ≡ sort leb xs
+unfolding precedesBy totalLess
 sort-unkeyed xs = refl
 
 module _ (le : ℕ → ℕ → Bool) where

@@ -13,21 +13,21 @@ unfolding lt eq isNan
 totalLess x y = lt x y || ((eq x y && (signBit x && not (signBit y))) || (not (isNan x) && isNan y))
 
 -- the number a with the key x goes before the number b with the key y, or is b
-unfoldable pub goesBy : Float → Float → ℕ → ℕ → Bool
+unfoldable pub precedesBy : Float → Float → ℕ → ℕ → Bool
 unfolding totalLess
-goesBy x y a b = cond (totalLess x y) true (cond (totalLess y x) false (leb a b))
+precedesBy x y a b = cond (totalLess x y) true (cond (totalLess y x) false (leb a b))
 
-abbrev pub goes : (ℕ → Float) → ℕ → ℕ → Bool
-goes key a b = goesBy (key a) (key b) a b
+abbrev pub precedes : (ℕ → Float) → ℕ → ℕ → Bool
+precedes key a b = precedesBy (key a) (key b) a b
 
 -- x goes before the number t with the key v
 abbrev pub ahead : (ℕ → Float) → Float → ℕ → ℕ → Bool
-ahead key v t x = not (goesBy v (key x) t x)
+ahead key v t x = not (precedesBy v (key x) t x)
 
 -- the same as a number, where x has the key k: 1 or 0
 unfoldable pub aheadBit : Float → Float → ℕ → ℕ → ℕ
-unfolding goesBy
-aheadBit v k t x = cond (goesBy v k t x) 0 1
+unfolding precedesBy
+aheadBit v k t x = cond (precedesBy v k t x) 0 1
 
 -- the keys that a list holds, one for each number from 0 on
 abbrev pub keyIn : List Float → ℕ → Float

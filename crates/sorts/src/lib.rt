@@ -4,7 +4,7 @@ ghost use mathlib.Core.List.{_++_};
 ghost use Prim.Native.Nat.{_+_, _≤_};
 ghost use lib.ListN.{length, take, drop};
 ghost use Rattle.sorts.specs.Sort.{sort, merge, fromFirst, partedBy, Dealt};
-ghost use Rattle.sorts.specs.Keys.{totalLess, goesBy, goes, ahead, aheadBit, keyIn};
+ghost use Rattle.sorts.specs.Keys.{totalLess, precedesBy, precedes, ahead, aheadBit, keyIn};
 
 // The key of item i, NaN past the end.
 pub fn key(keys: &[f64], i: u32) -> f64
@@ -24,7 +24,7 @@ fn total_less(x: f64, y: f64) -> bool
 
 // Whether a goes before b, or is b, where neither key is below the other.
 fn tied(x: f64, y: f64, a: u32, b: u32) -> bool
-    ensures { λ r. ⌜ r ≡ goesBy x y a b ⌝ }
+    ensures { λ r. ⌜ r ≡ precedesBy x y a b ⌝ }
 {
     if total_less(x, y) {
         return true;
@@ -37,7 +37,7 @@ fn tied(x: f64, y: f64, a: u32, b: u32) -> bool
 
 // Whether a goes before b, or is b: by key, then by number.
 fn before(keys: &[f64], a: u32, b: u32) -> bool
-    ensures { λ r. ⌜ r ≡ goes (keyIn (now (keys .entry))) a b ⌝ }
+    ensures { λ r. ⌜ r ≡ precedes (keyIn (now (keys .entry))) a b ⌝ }
 {
     let x = key(keys, a);
     let y = key(keys, b);
@@ -52,7 +52,7 @@ fn before(keys: &[f64], a: u32, b: u32) -> bool
 
 // Whether the next member comes from a, at i, rather than from b, at j.
 fn from_first(keys: &[f64], a: &[u32], i: usize, b: &[u32], j: usize) -> bool
-    ensures { λ r. ⌜ r ≡ fromFirst (goes (keyIn (now (keys .entry)))) (now (a .entry)) i (now (b .entry)) j ⌝ }
+    ensures { λ r. ⌜ r ≡ fromFirst (precedes (keyIn (now (keys .entry)))) (now (a .entry)) i (now (b .entry)) j ⌝ }
 {
     if i < a.len() {
         if j < b.len() {
@@ -66,7 +66,7 @@ fn from_first(keys: &[f64], a: &[u32], i: usize, b: &[u32], j: usize) -> bool
 // s becomes a and b, merged.
 fn merged(keys: &[f64], a: &[u32], b: &[u32], s: &mut [u32])
     requires { ⌜ length (now s) ≡ length (now a) + length (now b) ⌝ }
-    ensures { λ _. ⌜ now (s .exit) ≡ merge (goes (keyIn (now (keys .entry)))) (now (a .entry)) (now (b .entry)) ⌝ }
+    ensures { λ _. ⌜ now (s .exit) ≡ merge (precedes (keyIn (now (keys .entry)))) (now (a .entry)) (now (b .entry)) ⌝ }
 {
     let mut i: usize = 0;
     let mut j: usize = 0;
@@ -96,7 +96,7 @@ fn copied(s: &[u32], t: &mut [u32])
 // s becomes its first m and its rest, merged; t is working space, at least as long.
 fn joined(keys: &[f64], s: &mut [u32], m: usize, t: &mut [u32])
     requires { ⌜ (m ≤ length (now s)) × (length (now s) ≤ length (now t)) ⌝ }
-    ensures { λ _. ⌜ now (s .exit) ≡ merge (goes (keyIn (now (keys .entry)))) (take m (now (s .entry))) (drop m (now (s .entry))) ⌝ }
+    ensures { λ _. ⌜ now (s .exit) ≡ merge (precedes (keyIn (now (keys .entry)))) (take m (now (s .entry))) (drop m (now (s .entry))) ⌝ }
 {
     let n = s.len();
     copied(s, t);
@@ -107,7 +107,7 @@ fn joined(keys: &[f64], s: &mut [u32], m: usize, t: &mut [u32])
 // s in order; t is working space, at least as long.
 pub fn sorted(keys: &[f64], s: &mut [u32], t: &mut [u32])
     requires { ⌜ length (now s) ≤ length (now t) ⌝ }
-    ensures { λ _. ⌜ now (s .exit) ≡ sort (goes (keyIn (now (keys .entry)))) (now (s .entry)) ⌝ }
+    ensures { λ _. ⌜ now (s .exit) ≡ sort (precedes (keyIn (now (keys .entry)))) (now (s .entry)) ⌝ }
 {
     let n = s.len();
     if n < 2 {

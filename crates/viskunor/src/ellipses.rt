@@ -1,8 +1,8 @@
 // Ellipses whose axes lie along x and y: the nearest point. A call gives its refusal's number, or 0, and
 // an answer in the fields that it is lent; a refused call puts zeros there.
 ghost use mathlib.Core.Path.{_≡_};
-ghost use Rattle.accept.specs.Answers.{away, distanceFields};
-ghost use Rattle.oval.specs.Ellipse.{ellipseAnswer};
+ghost use Rattle.accept.specs.Answers.{distanceOf, distanceFields};
+ghost use Rattle.ellipse.specs.Ellipse.{ellipseAnswer};
 use accept::answers;
 use boundary::Point;
 
@@ -18,14 +18,14 @@ pub extern "C" fn vk_ellipse_nearest(
     nearest_y: &mut f64,
     distance: &mut f64,
 ) -> u32
-    ensures { λ r. ⌜ record { number = r; distance = away (now (distance .exit)) (now («nearest_x» .exit)) (now («nearest_y» .exit)) }
+    ensures { λ r. ⌜ record { number = r; distance = distanceOf (now (distance .exit)) (now («nearest_x» .exit)) (now («nearest_y» .exit)) }
         ≡ distanceFields (ellipseAnswer (record { x = «centre_x»; y = «centre_y» }) «semi_x» «semi_y» (record { x = x; y = y })) ⌝ }
 {
     let c = Point {
         x: centre_x,
         y: centre_y,
     };
-    let answer = oval::ellipse::ellipse_nearest(c, semi_x, semi_y, Point { x, y });
+    let answer = ellipse::ellipse::ellipse_nearest(c, semi_x, semi_y, Point { x, y });
     let fields = answers::distance_fields(answer);
     *nearest_x = fields.distance.v.x;
     *nearest_y = fields.distance.v.y;

@@ -2,7 +2,7 @@
 // refusal's number, or 0, and an answer in the fields that it is lent; a refused call puts zeros there.
 ghost use mathlib.Core.Path.{_≡_};
 ghost use Rattle.boundary.specs.Boxes.{cellOf};
-ghost use Rattle.accept.specs.Answers.{countFields, measureFields, boxFields, away, distanceFields};
+ghost use Rattle.accept.specs.Answers.{countFields, measureFields, boxFields, distanceOf, distanceFields};
 ghost use Rattle.geometry.specs.Answers.{areaAnswer, perimeterAnswer, boundsAnswer, containsAnswer, locateAnswer, distanceAnswer};
 ghost use Rattle.geometry.specs.Making.{makeCall};
 use accept::answers;
@@ -82,7 +82,7 @@ pub extern "C" fn vk_outline_distance(
     normal_x: &mut f64,
     normal_y: &mut f64,
 ) -> u32
-    ensures { λ r. ⌜ record { number = r; distance = away (now (distance .exit)) (now («normal_x» .exit)) (now («normal_y» .exit)) }
+    ensures { λ r. ⌜ record { number = r; distance = distanceOf (now (distance .exit)) (now («normal_x» .exit)) (now («normal_y» .exit)) }
         ≡ distanceFields (distanceAnswer (now (vertices .entry)) (record { x = x; y = y })) ⌝ }
 {
     let fields = answers::distance_fields(geometry::polygon::distance(vertices, Point { x, y }));

@@ -2,7 +2,7 @@
 use mathlib.Core.Path.{sym, ap, _∙_}
 use mathlib.Core.Bool.{Bool, cond}
 use Rattle.accept.specs.declared.Answer.{Answer}
-use Rattle.accept.specs.declared.Answer.the-variants.{Told}
+use Rattle.accept.specs.declared.Answer.the-variants.{Count}
 use Rattle.accept.specs.Answers.{Outcome, inFields}
 use Rattle.accept.specs.Refusals.{given}
 use Rattle.index.specs.Buffer.{IndexBuffer}
@@ -15,7 +15,7 @@ use Rattle.any.proofs.any_at.Tie as tie
 
 -- yes is 1, and no is 0
 abbrev told : Bool → Answer
-told b = Told (cond b 1 0)
+told b = Count (cond b 1 0)
 
 query-tested-requires : tie.Need-query-tested-requires
 query-tested-requires c κs = search needs

@@ -8,14 +8,14 @@ use Rattle.lists.proofs.FoldLaws.{fold-drop-end}
 use Rattle.lists.specs.Lists.{fold, any}
 use Rattle.set.specs.Set.{outlinesOf}
 use Rattle.any.specs.Answers.{containsIn}
-use Rattle.any.proofs.AnyLaws.{step, found-at, missed-at}
+use Rattle.any.proofs.AnyLaws.{anyStep, found-at, missed-at}
 use borrow.Author.Needs.{needs}
 use Rattle.any.proofs.any_holds.Statement.{statement}
 use Rattle.any.proofs.any_holds.Tie as tie
 
 abbrev Inv-loop : tie.InvT-loop
 Inv-loop v counts starts list p i₀ i =
-    (i ≤ length list) × (fold (step (containsIn (outlinesOf v counts) p)) false (drop i list) ≡ any (containsIn (outlinesOf v counts) p) list)
+    (i ≤ length list) × (fold (anyStep (containsIn (outlinesOf v counts) p)) false (drop i list) ≡ any (containsIn (outlinesOf v counts) p) list)
 
 abbrev μ-loop : tie.MeasureT-loop
 μ-loop v counts starts list p i₀ i = length list - i
@@ -60,7 +60,7 @@ returns-2 c =
     let l = c .before in
     let a = l .before .before .before .before .before .args in
     let f = containsIn (outlinesOf (now (a .v)) (now (a .counts))) (a .p) in
-    sym (fold-drop-end (step f) false (now (a .list)) _ (l .loop .inv .0) (c .loop-test .left)) ∙ l .loop .inv .1
+    sym (fold-drop-end (anyStep f) false (now (a .list)) _ (l .loop .inv .0) (c .loop-test .left)) ∙ l .loop .inv .1
 
 pub any-holds-spec : {M : Type 1} → statement M
 any-holds-spec =

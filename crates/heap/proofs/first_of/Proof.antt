@@ -1,7 +1,7 @@
 -- `heap::first_of` meets its contract. Assumes nothing.
 use borrow.Author.Needs.{needs}
 use borrow.Author.Tests.{lt-ltb, le-ltb}
-use Rattle.heap.specs.Sifts.{firstOf}
+use Rattle.heap.specs.Sifts.{earlierOf}
 use Rattle.heap.proofs.first_of.Statement.{statement}
 use Rattle.heap.proofs.first_of.Tie as tie
 
@@ -15,19 +15,19 @@ is-before-requires : tie.Need-is-before-requires
 is-before-requires c κs = search needs
 
 returns : tie.Need-returns
-unfolding firstOf
+unfolding earlierOf
 returns c =
     let e = rw (c .before .before .entry-at2 .ensures, c .before .before .before .entry-at .ensures) at (c .before .is-before .ensures) in
     rw (lt-ltb _ _ (c .before .before .before .before .if1 .taken), ← e, c .if2 .taken)
 
 returns-2 : tie.Need-returns-2
-unfolding firstOf
+unfolding earlierOf
 returns-2 c =
     let e = rw (c .before .before .entry-at2 .ensures, c .before .before .before .entry-at .ensures) at (c .before .is-before .ensures) in
     rw (lt-ltb _ _ (c .before .before .before .before .if1 .taken), ← e, c .if2 .left)
 
 returns-3 : tie.Need-returns-3
-unfolding firstOf
+unfolding earlierOf
 returns-3 c = rw (le-ltb _ _ (c .if1 .left))
 
 pub first-of-spec : {M : Type 1} → statement M

@@ -1,11 +1,11 @@
 -- `heap::is_before` meets its contract. Assumes nothing.
 use mathlib.Core.Path.{refl}
-use Rattle.heap.specs.Order.{before}
+use Rattle.heap.specs.Order.{entryBefore}
 use Rattle.heap.proofs.is_before.Statement.{statement}
 use Rattle.heap.proofs.is_before.Tie as tie
 
 returns : tie.Need-returns
-unfolding before
+unfolding entryBefore
 returns c = refl
 
 pub is-before-spec : {M : Type 1} → statement M

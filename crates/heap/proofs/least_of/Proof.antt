@@ -6,7 +6,7 @@ use native.Mathlib.Omega.{arith}
 use borrow.Author.Needs.{needs}
 use denote.Ref.{now}
 use Rattle.heap.specs.Heap.{entryAt}
-use Rattle.heap.specs.Sifts.{leastOf}
+use Rattle.heap.specs.Sifts.{leastChild}
 use Rattle.heap.proofs.SiftLaws.{first-place, least-leaf}
 use Rattle.heap.proofs.least_of.Statement.{statement}
 use Rattle.heap.proofs.least_of.Tie as tie
@@ -33,7 +33,7 @@ first-of-requires-2 c κs =
     ⊎-elim (λ p. ((omega arith, omega arith), (omega arith, omega arith))) (λ p. ((omega arith, omega arith), (omega arith, omega arith))) (first-place (entryAt (now (a .nodes)) (now (a .gaps))) (a .n) (a .i) (2 * a .i + 1))
 
 returns-2 : tie.Need-returns-2
-unfolding leastOf
+unfolding leastChild
 returns-2 c =
     let a = c .before .before .before .before .before .args in
     let z : 2 * a .i + 2 ≡ 2 * a .i + 1 + 1 = omega arith in

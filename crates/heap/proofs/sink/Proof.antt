@@ -4,13 +4,13 @@ use Prim.Native.Nat.{_-_, _≤_}
 use native.Mathlib.Omega.{arith}
 use borrow.Author.Needs.{needs}
 use Rattle.heap.specs.Heap.{entryAt}
-use Rattle.heap.specs.Sifts.{HeapLists, leastOf, Sinking}
+use Rattle.heap.specs.Sifts.{HeapLists, leastChild, Sinking}
 use Rattle.heap.proofs.SiftLaws.{Moving, moving, sunk, least-place, sink-turn}
 use Rattle.heap.proofs.sink.Statement.{statement}
 use Rattle.heap.proofs.sink.Tie as tie
 
 abbrev Inv-loop : tie.InvT-loop
-Inv-loop nodes₀ gaps₀ n i₀ c₀ nodes gaps i c = (i ≤ n) × (c ≡ leastOf (entryAt nodes gaps) n i) × Moving nodes₀ gaps₀ n nodes gaps × Sinking (entryAt nodes gaps) n i
+Inv-loop nodes₀ gaps₀ n i₀ c₀ nodes gaps i c = (i ≤ n) × (c ≡ leastChild (entryAt nodes gaps) n i) × Moving nodes₀ gaps₀ n nodes gaps × Sinking (entryAt nodes gaps) n i
 
 abbrev μ-loop : tie.MeasureT-loop
 μ-loop nodes₀ gaps₀ n i₀ c₀ nodes gaps i c = n - i

@@ -1,5 +1,5 @@
 -- `index::new` meets its contract. Assumes nothing.
-use Rattle.index.proofs.GrowLaws.{grown-nodes, index-nodes, accepted, built, build-refused}
+use Rattle.index.proofs.GrowLaws.{grown-nodes, index-nodes, accepted-sizes, built, build-refused}
 use Rattle.index.specs.Buffer.{buffer}
 use Rattle.index.specs.Answers.{buildTested}
 use native.Mathlib.Omega.{arith}
@@ -17,7 +17,7 @@ grow-or-leaf-requires : tie.Need-grow-or-leaf-requires
 unfolding buildTested
 grow-or-leaf-requires c κs =
     let a = c .before .before .before .before .before .before .before .before .before .before .args in
-    accepted (a .boxes .now) (buffer (a .corners .now) (a .links .now) (a .items .now))
+    accepted-sizes (a .boxes .now) (buffer (a .corners .now) (a .links .now) (a .items .now))
     (c .before .before .before .before .before .build-tested .ensures) (c .before .before .before .enum-told .given .1)
 
 cast-t18 : tie.Need-cast-t18
@@ -25,7 +25,7 @@ unfolding buildTested
 cast-t18 c =
     let b = c .before .before .before .before .before .before .before .before .before .before .before .before in
     let a = b .before .before .before .before .before .args in
-    let A = accepted (a .boxes .now) (buffer (a .corners .now) (a .links .now) (a .items .now))
+    let A = accepted-sizes (a .boxes .now) (buffer (a .corners .now) (a .links .now) (a .items .now))
     (b .build-tested .ensures) (c .before .before .before .before .before .before .before .before .before .before .enum-told .given .1) in
     let s = A .size in
     let k = index-nodes (a .boxes .now) (omega arith) in
@@ -37,7 +37,7 @@ unfolding buildTested
 cast-t21 c =
     let b = c .before .before .before .before .before .before .before .before .before .before .before .before in
     let a = b .before .before .before .before .before .args in
-    let A = accepted (a .boxes .now) (buffer (a .corners .now) (a .links .now) (a .items .now))
+    let A = accepted-sizes (a .boxes .now) (buffer (a .corners .now) (a .links .now) (a .items .now))
     (b .build-tested .ensures) (c .before .before .before .before .before .before .before .before .before .before .enum-told .given .1) in
     let s = A .size in
     search needs

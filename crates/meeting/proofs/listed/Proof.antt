@@ -1,7 +1,7 @@
 -- `meeting::listed` meets its contract. Assumes nothing.
 use Rattle.meeting.proofs.MeetingLaws.{listed-of}
 use Rattle.index.specs.Buffer.{buffer}
-use Rattle.index.proofs.Theorems.{index-levels}
+use Rattle.index.proofs.IndexCovers.{index-levels}
 use borrow.Author.Needs.{needs}
 use Rattle.meeting.proofs.listed.Statement.{statement}
 use Rattle.meeting.proofs.listed.Tie as tie

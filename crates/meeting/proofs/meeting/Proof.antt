@@ -3,7 +3,7 @@ use Rattle.meeting.proofs.MeetingLaws.{length-meeting, listing-count, m
 use Rattle.meeting.specs.Answers.{meetingTested}
 use Rattle.index.specs.Buffer.{buffer}
 use Rattle.index.proofs.GrowLaws.{length-index-items}
-use Rattle.splits.specs.Tree.{indexOf}
+use Rattle.tree.specs.Tree.{indexOf}
 use borrow.Author.Needs.{needs}
 use Rattle.meeting.proofs.meeting.Statement.{statement}
 use Rattle.meeting.proofs.meeting.Tie as tie

@@ -1,7 +1,7 @@
 -- `nodes::build` meets its contract. The measure is the number of items. Assumes nothing.
 use Rattle.nodes.proofs.BuildLaws.{rest-length, whole-length, first-ascends, second-ascends, grown-leaf, grown-inner}
 use Rattle.nodes.proofs.TreeLaws.{extra-below}
-use Rattle.entries.specs.Entries.{boxAt, pointIn}
+use Rattle.boxes.specs.BoxLists.{boxAt, pointIn}
 use lib.ListN.{take}
 use lib.Seq.{length-take-le}
 use native.Mathlib.Omega.{arith}

@@ -1,6 +1,6 @@
 -- `nodes::settle` meets its contract. Assumes nothing.
 use Rattle.nodes.proofs.BuildLaws.{settled-leaf, settled-inner, arranged-leaf, arranged-inner}
-use Rattle.entries.specs.Entries.{boxAt, pointIn}
+use Rattle.boxes.specs.BoxLists.{boxAt, pointIn}
 use Rattle.sorts.proofs.PartLaws.{sort-sorted}
 use lib.Dec.{leb}
 use mathlib.Core.Path.{sym, _∙_}

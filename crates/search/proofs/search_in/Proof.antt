@@ -5,14 +5,14 @@ use native.Mathlib.Omega.{arith}
 use lib.ListN.{length}
 use lib.Ieee.{div, ofBits}
 use Rattle.boundary.proofs.KnownLaws.{owned-point}
-use Rattle.heap.specs.Heap.{entryAt, total}
+use Rattle.heap.specs.Heap.{entryAt, totalWeight}
 use Rattle.heap.proofs.HeapLaws.{heaped-none}
 use Rattle.index.specs.Buffer.{buffer}
 use Rattle.set.specs.Set.{outlinesOf}
 use Rattle.set.proofs.SetLaws.{outlines-length}
 use Rattle.search.specs.Least.{magnitudeAt}
 use Rattle.search.proofs.SearchLaws.{sizeOf, Searching, searching-few, popped-less, looked-within, searching-leaf, children-small, opened-less, searching-inner, upto-above, upto-none}
-use Rattle.search.proofs.SetSearch.{most, gap-number, numbers, set-search-first, set-search-end}
+use Rattle.search.proofs.SetSearch.{most, gap-number, magnitude-numbers, set-search-first, set-search-end}
 use borrow.Author.Needs.{needs}
 use Rattle.search.proofs.search_in.Statement.{statement}
 use Rattle.search.proofs.search_in.Tie as tie
@@ -24,7 +24,7 @@ Inv-loop v counts starts p corners links items nodes₀ gaps₀ best₀ n₀ nod
 
 abbrev μ-loop : tie.MeasureT-loop
 μ-loop v counts starts p corners links items nodes₀ gaps₀ best₀ n₀ nodes gaps best n =
-    total (sizeOf (buffer corners links items) most p (magnitudeAt (outlinesOf v counts) p) (length (outlinesOf v counts))) (entryAt nodes gaps) n
+    totalWeight (sizeOf (buffer corners links items) most p (magnitudeAt (outlinesOf v counts) p) (length (outlinesOf v counts))) (entryAt nodes gaps) n
 
 none-of : {n : ℕ} → n ≤ 0 → n ≡ 0
 none-of h = omega arith
@@ -136,7 +136,7 @@ look-requires c κs =
     let H = x .pop .ensures in (
       A,
       rw (z .at .ensures, y .at2 .ensures)
-          (looked-within B most (a .p) D n S H (numbers os (A .fitting) (A .held) (a .p) P) (rw (y .at2 .ensures) at (c .if2 .taken))),
+          (looked-within B most (a .p) D n S H (magnitude-numbers os (A .fitting) (A .held) (a .p) P) (rw (y .at2 .ensures) at (c .if2 .taken))),
     )
 
 loop-less : tie.Need-loop-less Inv-loop μ-loop
@@ -172,7 +172,7 @@ loop-again c =
     let H = x .pop .ensures in
     let f = rw (y .at2 .ensures) at (i .if2 .taken) in
     let r = rw (z .at .ensures, y .at2 .ensures) at (c .look .ensures) in
-    (searching-leaf B most (a .p) D n S H (numbers os (A .fitting) (A .held) (a .p) P) f r, search needs, search needs)
+    (searching-leaf B most (a .p) D n S H (magnitude-numbers os (A .fitting) (A .held) (a .p) P) f r, search needs, search needs)
 
 wait-both-requires : tie.Need-wait-both-requires Inv-loop μ-loop
 wait-both-requires c κs =

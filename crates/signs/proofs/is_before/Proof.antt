@@ -1,6 +1,6 @@
 -- `signs::is_before` meets its contract. Assumes nothing.
 use borrow.Author.Needs.{needs}
-use Rattle.signs.specs.Signs.{before}
+use Rattle.signs.specs.Signs.{standsBefore}
 use Rattle.signs.proofs.is_before.Statement.{statement}
 use Rattle.signs.proofs.is_before.Tie as tie
 
@@ -8,7 +8,7 @@ sign-bit-requires : tie.Need-sign-bit-requires
 sign-bit-requires c κs = search needs
 
 returns : tie.Need-returns
-unfolding before
+unfolding standsBefore
 returns c = rw (c .sign-bit .ensures)
 
 pub is-before-spec : {M : Type 1} → statement M

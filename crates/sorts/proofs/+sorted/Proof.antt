@@ -6,7 +6,7 @@ use mathlib.Core.Path.{_≡_, sym, ap, _∙_}
 use mathlib.Core.List.{List}
 use Rattle.sorts.proofs.Lists.{rest-of, short-sorted, sorted-is}
 use Rattle.sorts.proofs.Order.{goes-total, goes-trans}
-use Rattle.sorts.specs.Keys.{goes, keyIn}
+use Rattle.sorts.specs.Keys.{precedes, keyIn}
 use native.Mathlib.Omega.{arith}
 use borrow.Author.Needs.{needs}
 use Prim.Native.Nat.{ℕ, _<_}
@@ -34,7 +34,7 @@ sorted-returns : (t : ℕ) → sorted-lts.Need-returns (
   joined-reads.Asked,
   joined-reads.Learnt,
 ) (sorted-at t) sorted.Post
-sorted-returns t c = short-sorted (goes (keyIn (c .before .before .before .before .args .keys .now))) (c .before .before .before .before .args .s .now) (c .if1 .taken)
+sorted-returns t c = short-sorted (precedes (keyIn (c .before .before .before .before .args .keys .now))) (c .before .before .before .before .args .s .now) (c .if1 .taken)
 
 sorted-slice-relend-prefix-sorted : (t : ℕ) → sorted-lts.Need-slice-relend-prefix-sorted (
   sorted-below t,
@@ -148,7 +148,7 @@ sorted-returns-2 t c =
     let K = c .before .before .before .before .before .before .before .before .before .before .before .before .before .before .before .before .before .before .before .before .before .before .before .before .before .args .keys .now in
     let S : List ℕ = c .before .before .before .before .before .before .before .before .before .before .before .before .before .before .before .before .before .before .before .before .before .before .before .before .before .args .s .now in
     let n = c .before .before .before .before .before .before .before .before .before .before .before .before .before .before .before .before .before .before .before .before .before .if1 .left in
-    sorted-is (goes (keyIn K)) (goes-total (keyIn K)) (goes-trans (keyIn K)) S (c .before .before .before .before .before .before .before .before .before .before .before .before .before .before .before .before .before .before .sorted .last .1 .0) (c .before .before .before .before .before .before .before .before .before .before .before .sorted2 .last .1 .0) _ (length S / 2)
+    sorted-is (precedes (keyIn K)) (goes-total (keyIn K)) (goes-trans (keyIn K)) S (c .before .before .before .before .before .before .before .before .before .before .before .before .before .before .before .before .before .before .sorted .last .1 .0) (c .before .before .before .before .before .before .before .before .before .before .before .sorted2 .last .1 .0) _ (length S / 2)
     (c .before .before .before .before .before .before .before .before .before .before .before .before .before .before .before .before .before .before .sorted .kept .1 .0) (omega arith) (c .before .before .before .before .before .before .before .before .before .before .before .before .before .before .before .before .before .before .sorted .ensures) (c .before .before .before .before .before .before .before .before .before .before .before .sorted2 .ensures) (c .before .before .before .before .joined .ensures)
 
 pub +sorted-spec : {M : Type 1} → statement M

@@ -1,6 +1,6 @@
 -- `sorts::from_first` meets its contract. Assumes nothing.
 use mathlib.Core.Path.{_∙_, ap₂}
-use Rattle.sorts.specs.Keys.{goes, keyIn}
+use Rattle.sorts.specs.Keys.{precedes, keyIn}
 use borrow.Author.Tests.{lt-ltb, le-ltb}
 use lib.ListN.{length}
 use Rattle.sorts.specs.Sort.{fromFirst}
@@ -21,7 +21,7 @@ returns : tie.Need-returns
 unfolding fromFirst
 returns c =
     let a = c .before .before .before .before .before .before .before .before .args in
-    rw (lt-ltb (a .i) (length (a .a .now)) (c .before .before .before .before .if1 .taken), lt-ltb (a .j) (length (a .b .now)) (c .before .before .before .if2 .taken)) (c .before2 .ensures ∙ ap₂ (goes (keyIn (a .keys .now))) (c .before .before .at .ensures) (c .before .at2 .ensures))
+    rw (lt-ltb (a .i) (length (a .a .now)) (c .before .before .before .before .if1 .taken), lt-ltb (a .j) (length (a .b .now)) (c .before .before .before .if2 .taken)) (c .before2 .ensures ∙ ap₂ (precedes (keyIn (a .keys .now))) (c .before .before .at .ensures) (c .before .at2 .ensures))
 
 returns-2 : tie.Need-returns-2
 unfolding fromFirst

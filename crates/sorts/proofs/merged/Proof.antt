@@ -4,14 +4,14 @@ use Rattle.sorts.proofs.Order.{goes-total, goes-trans}
 use mathlib.Core.Path.{refl, sym, _∙_}
 use Prim.Native.Nat.{_-_, _+_}
 use lib.ListN.{length}
-use Rattle.sorts.specs.Keys.{goes, keyIn}
+use Rattle.sorts.specs.Keys.{precedes, keyIn}
 use native.Mathlib.Omega.{arith}
 use borrow.Author.Needs.{needs}
 use Rattle.sorts.proofs.merged.Statement.{statement}
 use Rattle.sorts.proofs.merged.Tie as tie
 
 abbrev Inv-loop : tie.InvT-loop
-Inv-loop keys a b s₀ i₀ j₀ s i j = Merging (goes (keyIn keys)) a b s i j
+Inv-loop keys a b s₀ i₀ j₀ s i j = Merging (precedes (keyIn keys)) a b s i j
 
 abbrev μ-loop : tie.MeasureT-loop
 μ-loop keys a b s₀ i₀ j₀ s i j = length s - (i + j)
@@ -43,7 +43,7 @@ loop-less c = search needs
 loop-again : tie.Need-loop-again Inv-loop μ-loop
 loop-again c =
     let K = c .before .before .before .before .before .before .before .before .before .before .before .before .before .args .keys .now in
-    merging-first (goes (keyIn K)) (goes-total (keyIn K)) (goes-trans (keyIn K)) _ _ _ _ _ (c .before .before .before .before .before .before .before .before .loop .inv) (c .before .before .put .last .0) (c .before .before .before .at .result) (c .before .before .before .before .before .before .before .loop-test .taken) (sym (c .before .before .before .before .before .before .from-first .ensures) ∙ c .before .before .before .before .before .if1 .taken) (c .before .before .before .at .ensures) (c .before .before .put .ensures)
+    merging-first (precedes (keyIn K)) (goes-total (keyIn K)) (goes-trans (keyIn K)) _ _ _ _ _ (c .before .before .before .before .before .before .before .before .loop .inv) (c .before .before .put .last .0) (c .before .before .before .at .result) (c .before .before .before .before .before .before .before .loop-test .taken) (sym (c .before .before .before .before .before .before .from-first .ensures) ∙ c .before .before .before .before .before .if1 .taken) (c .before .before .before .at .ensures) (c .before .before .put .ensures)
 
 add-put-2 : tie.Need-add-put-2 Inv-loop μ-loop
 add-put-2 c = search needs
@@ -63,7 +63,7 @@ loop-less-2 c = search needs
 loop-again-2 : tie.Need-loop-again-2 Inv-loop μ-loop
 loop-again-2 c =
     let K = c .before .before .before .before .before .before .before .before .before .before .before .before .before .args .keys .now in
-    merging-second (goes (keyIn K)) (goes-total (keyIn K)) (goes-trans (keyIn K)) _ _ _ _ _ (c .before .before .before .before .before .before .before .before .loop .inv) (c .before .before .put2 .last .0) (c .before .before .before .at2 .result) (c .before .before .before .before .before .before .before .loop-test .taken) (sym (c .before .before .before .before .before .before .from-first .ensures) ∙ c .before .before .before .before .before .if1 .left) (c .before .before .before .at2 .ensures) (c .before .before .put2 .ensures)
+    merging-second (precedes (keyIn K)) (goes-total (keyIn K)) (goes-trans (keyIn K)) _ _ _ _ _ (c .before .before .before .before .before .before .before .before .loop .inv) (c .before .before .put2 .last .0) (c .before .before .before .at2 .result) (c .before .before .before .before .before .before .before .loop-test .taken) (sym (c .before .before .before .before .before .before .from-first .ensures) ∙ c .before .before .before .before .before .if1 .left) (c .before .before .before .at2 .ensures) (c .before .before .put2 .ensures)
 
 same-length : tie.Need-same-length Inv-loop μ-loop
 same-length c = search needs
@@ -71,7 +71,7 @@ same-length c = search needs
 returns : tie.Need-returns Inv-loop μ-loop
 returns c =
     let K = c .before .before .before .before .before .before .args .keys .now in
-    merging-done (goes (keyIn K)) (goes-total (keyIn K)) (goes-trans (keyIn K)) _ _ _ _ _ (c .before .loop .inv) (c .loop-test .left)
+    merging-done (precedes (keyIn K)) (goes-total (keyIn K)) (goes-trans (keyIn K)) _ _ _ _ _ (c .before .loop .inv) (c .loop-test .left)
 
 pub merged-spec : {M : Type 1} → statement M
 merged-spec =

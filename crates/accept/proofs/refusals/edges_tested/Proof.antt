@@ -14,7 +14,7 @@ use Rattle.boundary.specs.declared.Edge.{Edge}
 use Rattle.lists.specs.Lists.{run, fold, any, total}
 use Rattle.boundary.specs.Outline.{count, vertexAt, edgeAt, edges}
 use Rattle.lists.proofs.FoldLaws.{fold-run-next, fold-run-end, fold-found}
-use Rattle.accept.specs.Area.{crossOf, areaOf}
+use Rattle.accept.specs.Area.{shoelaceTerm, areaOf}
 use Rattle.accept.specs.Refusals.{samePoint}
 use Rattle.accept.specs.Verdicts.{edgesVerdict}
 use Rattle.accept.proofs.refusals.edges_tested.Statement.{statement}
@@ -27,7 +27,7 @@ abbrev found : Bool → Edge → Bool
 found b e = b || joins e
 
 abbrev summed : Float → Edge → Float
-summed s e = add binary64 s (crossOf e)
+summed s e = add binary64 s (shoelaceTerm e)
 
 -- edge i starts at a, and no edge before it joins equal vertices
 abbrev Inv-loop : tie.InvT-loop
@@ -35,7 +35,7 @@ Inv-loop v n sum₀ first a₀ i₀ sum a i =
     (i < count v)
     × (a ≡ vertexAt v i)
     × (fold found false (run (edgeAt v) i (count v - i)) ≡ any joins (edges v))
-    × (fold summed sum (run (edgeAt v) i (count v - i)) ≡ total crossOf (edges v))
+    × (fold summed sum (run (edgeAt v) i (count v - i)) ≡ total shoelaceTerm (edges v))
 
 abbrev μ-loop : tie.MeasureT-loop
 μ-loop v n sum₀ first a₀ i₀ sum a i = count v - i
@@ -86,8 +86,8 @@ returns-2 c =
     let s = sym (ap joins e) ∙ sym (c .before .same-point .ensures) ∙ c .if2 .taken in
     rw (← inv .2, fold-run-next found _ _ _ _ (inv .0), s, fold-found joins)
 
-cross-requires : tie.Need-cross-requires Inv-loop μ-loop
-cross-requires c κs = search needs
+shoelace-term-requires : tie.Need-shoelace-term-requires Inv-loop μ-loop
+shoelace-term-requires c κs = search needs
 
 add-i : tie.Need-add-i Inv-loop μ-loop
 add-i c = search needs
@@ -106,7 +106,7 @@ loop-again c =
       search needs,
       d .vertex-at2 .ensures,
       rw s at (sym (fold-run-next found _ _ _ _ (inv .0)) ∙ inv .2),
-      rw (c .cross .ensures ∙ ap crossOf e) (sym (fold-run-next summed _ _ _ _ (inv .0)) ∙ inv .3),
+      rw (c .shoelace-term .ensures ∙ ap shoelaceTerm e) (sym (fold-run-next summed _ _ _ _ (inv .0)) ∙ inv .3),
     )
 
 last-tested-requires : tie.Need-last-tested-requires Inv-loop μ-loop
@@ -139,7 +139,7 @@ edges-tested-spec =
     vertex-at-requires-2
     same-point-requires
     returns-2
-    cross-requires
+    shoelace-term-requires
     add-i
     loop-less
     loop-again

@@ -13,8 +13,8 @@ returns : tie.Need-returns
 unfolding edgesVerdict
 returns c = rw (sym (c .before .same-point .ensures) ∙ c .if1 .taken)
 
-cross-requires : tie.Need-cross-requires
-cross-requires c κs = search needs
+shoelace-term-requires : tie.Need-shoelace-term-requires
+shoelace-term-requires c κs = search needs
 
 area-tested-requires : tie.Need-area-tested-requires
 area-tested-requires c κs = search needs
@@ -23,7 +23,7 @@ returns-2 : tie.Need-returns-2
 unfolding ofBits
 returns-2 c =
     let d = c .before .before in
-    rw (sym (d .before .same-point .ensures) ∙ d .if1 .left, c .area-tested .ensures, c .before .cross .ensures)
+    rw (sym (d .before .same-point .ensures) ∙ d .if1 .left, c .area-tested .ensures, c .before .shoelace-term .ensures)
 
 pub last-tested-spec : {M : Type 1} → statement M
-last-tested-spec = tie.close (tie.spec same-point-requires returns cross-requires area-tested-requires returns-2)
+last-tested-spec = tie.close (tie.spec same-point-requires returns shoelace-term-requires area-tested-requires returns-2)

@@ -6,10 +6,10 @@ use Rattle.clip.proofs.halves.clip.Statement.{statement}
 use Rattle.clip.proofs.halves.clip.Tie as tie
 
 returns : tie.Need-returns
-returns c = record { same = refl; rest = refl; staged = λ long es h. too-long h (c .if1 .taken) _ _; handed = λ es h a. record { unwritten = refl; stands = refl } }
+returns c = record { same = refl; rest = refl; staged = λ long es h. too-long h (c .if1 .taken) _ _; untouched = λ es h a. record { unwritten = refl; stands = refl } }
 
 returns-2 : tie.Need-returns-2
-returns-2 c = record { same = refl; rest = refl; staged = λ long es h. empty h _ (c .if2 .taken); handed = λ es h a. record { unwritten = refl; stands = refl } }
+returns-2 c = record { same = refl; rest = refl; staged = λ long es h. empty h _ (c .if2 .taken); untouched = λ es h a. record { unwritten = refl; stands = refl } }
 
 clip-some-requires : tie.Need-clip-some-requires
 clip-some-requires c κs = (c .before .before .before .before .pre, omega arith, c .before .before .if1 .left)

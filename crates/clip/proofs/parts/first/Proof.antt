@@ -1,6 +1,6 @@
 -- `clip::parts::first` meets its contract. Assumes nothing.
 use lib.Ieee.{ofBits}
-use Rattle.clip.specs.Passes.{firstOf}
+use Rattle.clip.specs.Passes.{firstPart}
 use borrow.Author.Needs.{needs}
 use Rattle.clip.proofs.parts.first.Statement.{statement}
 use Rattle.clip.proofs.parts.first.Tie as tie
@@ -12,11 +12,11 @@ point-at-requires-2 : tie.Need-point-at-requires-2
 point-at-requires-2 c κs = search needs
 
 returns : tie.Need-returns
-unfolding firstOf ofBits
+unfolding firstPart ofBits
 returns c = rw (c .before .before .if1 .taken, c .point-at2 .ensures, c .before .point-at .ensures)
 
 returns-2 : tie.Need-returns-2
-unfolding firstOf
+unfolding firstPart
 returns-2 c = rw (c .if1 .left)
 
 pub first-spec : {M : Type 1} → statement M

@@ -1,5 +1,5 @@
 -- `clip::parts::point_at` meets its contract. Assumes nothing.
-use Rattle.clip.specs.Clip.{at}
+use Rattle.clip.specs.Clip.{pointAlong}
 use borrow.Author.Needs.{needs}
 use Rattle.clip.proofs.parts.point_at.Statement.{statement}
 use Rattle.clip.proofs.parts.point_at.Tie as tie
@@ -11,7 +11,7 @@ along-requires-2 : tie.Need-along-requires-2
 along-requires-2 c κs = search needs
 
 returns : tie.Need-returns
-unfolding at
+unfolding pointAlong
 returns c = rw (c .along2 .ensures, c .before .along .ensures)
 
 pub point-at-spec : {M : Type 1} → statement M

@@ -1,7 +1,7 @@
 -- `clip::path::emit` meets its contract. Assumes nothing.
 use native.Mathlib.Omega.{arith}
 use borrow.Author.Tests.{not-true, not-false}
-use Rattle.clip.proofs.LentLaws.{unchanged, stored-line, off, over, on}
+use Rattle.clip.proofs.LentLaws.{unchanged, stored-line, off, beyond-room, on}
 use borrow.Author.Needs.{needs}
 use Rattle.clip.proofs.path.emit.Statement.{statement}
 use Rattle.clip.proofs.path.emit.Tie as tie
@@ -31,7 +31,7 @@ add-result-2 : tie.Need-add-result-2
 add-result-2 c = search needs
 
 returns-3 : tie.Need-returns-3
-returns-3 c = let e = not-false (c .before .before .before .args .on) (c .before .if1 .left) in (rw e, unchanged _, λ es h. rw e (over h _ (c .if2 .left)))
+returns-3 c = let e = not-false (c .before .before .before .args .on) (c .before .if1 .left) in (rw e, unchanged _, λ es h. rw e (beyond-room h _ (c .if2 .left)))
 
 pub emit-spec : {M : Type 1} → statement M
 emit-spec =

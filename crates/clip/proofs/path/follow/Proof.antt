@@ -3,7 +3,7 @@ use mathlib.Core.Path.{_∙_}
 use native.Mathlib.Omega.{arith}
 use borrow.Author.Tests.{not-true, not-false}
 use Rattle.clip.specs.Passes.{followed}
-use Rattle.clip.proofs.LentLaws.{unchanged, then, one-le, kept}
+use Rattle.clip.proofs.LentLaws.{unchanged, then, one-le, path-kept}
 use borrow.Author.Needs.{needs}
 use Rattle.clip.proofs.path.follow.Statement.{statement}
 use Rattle.clip.proofs.path.follow.Tie as tie
@@ -40,7 +40,7 @@ returns-2 c =
     let c8 = c7 .before in
     let c9 = c8 .before in
     let c14 = c9 .before .before .before .before .before in
-    (omega (arith, c3 .emit2 .ensures .0, c7 .emit .ensures .0, one-le (c8 .joins .result)), then (c7 .emit .ensures .1) (c3 .emit2 .ensures .1), λ t h. rw (not-false (c14 .args .kept) (c9 .before .before .before .if1 .left)) (kept h (c14 .args .e) (c .moved .result) (c8 .joins .result) (c9 .line .result) (c3 .emit2 .result) (c .moved .ensures) (c8 .joins .ensures) (c9 .line .ensures) (c3 .emit2 .ensures .2 _ (c7 .emit .ensures .2 (t .out) (h .held)))))
+    (omega (arith, c3 .emit2 .ensures .0, c7 .emit .ensures .0, one-le (c8 .joins .result)), then (c7 .emit .ensures .1) (c3 .emit2 .ensures .1), λ t h. rw (not-false (c14 .args .kept) (c9 .before .before .before .if1 .left)) (path-kept h (c14 .args .e) (c .moved .result) (c8 .joins .result) (c9 .line .result) (c3 .emit2 .result) (c .moved .ensures) (c8 .joins .ensures) (c9 .line .ensures) (c3 .emit2 .ensures .2 _ (c7 .emit .ensures .2 (t .out) (h .held)))))
 
 pub follow-spec : {M : Type 1} → statement M
 follow-spec =

@@ -1,5 +1,5 @@
 -- `clip::scan::marks_at` meets its contract. Assumes nothing.
-use Rattle.clip.proofs.SurveyLaws.{marks-of-column}
+use Rattle.clip.proofs.FirstPassLaws.{marks-of-column}
 use borrow.Author.Needs.{needs}
 use Rattle.clip.proofs.scan.marks_at.Statement.{statement}
 use Rattle.clip.proofs.scan.marks_at.Tie as tie

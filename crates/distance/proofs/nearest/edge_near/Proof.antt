@@ -4,12 +4,12 @@ use native.Mathlib.Omega.{arith}
 use borrow.Author.Needs.{needs}
 use denote.Ref.{now}
 use Rattle.boundary.specs.Outline.{count}
-use Rattle.distance.proofs.SearchLaws.{found-far, Searched, searched-first, searched-next, searched-end, edge-in-field}
+use Rattle.distance.proofs.SearchLaws.{found-far, SearchedEdges, searched-first, searched-next, searched-end, edge-in-field}
 use Rattle.distance.proofs.nearest.edge_near.Statement.{statement}
 use Rattle.distance.proofs.nearest.edge_near.Tie as tie
 
 abbrev Inv-loop : tie.InvT-loop
-Inv-loop v x y p n k best₀ i₀ best i = Searched v (record { x = x; y = y }) i best
+Inv-loop v x y p n k best₀ i₀ best i = SearchedEdges v (record { x = x; y = y }) i best
 
 abbrev μ-loop : tie.MeasureT-loop
 μ-loop v x y p n k best₀ i₀ best i = count v - i

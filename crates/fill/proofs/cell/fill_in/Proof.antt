@@ -9,7 +9,7 @@ use Rattle.lists.proofs.FrontLaws.{zeros-past}
 use Rattle.clip.proofs.LentLaws.{rest-kept}
 use Rattle.fill.specs.Fill.{fillOf}
 use Rattle.fill.specs.Answers.{halfOf, filled}
-use Rattle.fill.proofs.FillLaws.{widened}
+use Rattle.fill.proofs.FillLaws.{more-room}
 use borrow.Author.Needs.{needs}
 use Rattle.fill.proofs.cell.fill_in.Statement.{statement}
 use Rattle.fill.proofs.cell.fill_in.Tie as tie
@@ -41,7 +41,7 @@ returns c =
     let w = c16 .args .w .now in
     let n = 8 * halfOf (length w) in
     let kept = c8 .four .ensures .1 ∙ rest-kept (c12 .write-edges .ensures .0) n (omega (arith, c16 .pre)) in
-    let answer = c .before .before .before .before .summed .ensures _ _ (c8 .four .ensures .2 _ (widened (c12 .write-edges .ensures .1) (le-refl _))) in
+    let answer = c .before .before .before .before .summed .ensures _ _ (c8 .four .ensures .2 _ (more-room (c12 .write-edges .ensures .1) (le-refl _))) in
     rw (answer, c .before .before .clear-numbers .ensures, zeros-past zeroᶠ n _ w kept)
 
 pub fill-in-spec : {M : Type 1} → statement M

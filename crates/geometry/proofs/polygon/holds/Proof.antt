@@ -10,10 +10,10 @@ use denote.Ref.{now}
 use lib.Ieee.{unlike, lt}
 use Rattle.boundary.specs.declared.Point.{Point}
 use Rattle.boundary.specs.declared.Edge.{Edge}
-use Rattle.lists.specs.Lists.{run, fold, oddly}
+use Rattle.lists.specs.Lists.{run, fold, oddMany}
 use Rattle.boundary.specs.Outline.{count, vertexAt, edges}
 use Rattle.lists.proofs.FoldLaws.{fold-run-next, fold-run-end}
-use Rattle.geometry.specs.Polygon.{crossesOf, containsOf, before, edgeInto, containsRust}
+use Rattle.geometry.specs.Polygon.{crossesOf, containsOf, previous, edgeInto, containsRust}
 use Rattle.geometry.proofs.ContainsLaws.{contains-rust}
 use Rattle.geometry.proofs.polygon.holds.Statement.{statement}
 use Rattle.geometry.proofs.polygon.holds.Tie as tie
@@ -26,22 +26,22 @@ abbrev Inv-loop : tie.InvT-loop
 Inv-loop v p n inside₀ j₀ was₀ i₀ inside j was i =
     (i ≤ count v)
     × (0 < count v)
-    × (j ≡ before (count v) i)
+    × (j ≡ previous (count v) i)
     × (was ≡ lt (p .y) (vertexAt v j .y))
     × (fold (step p) inside (run (edgeInto v) i (count v - i)) ≡ containsRust v p)
 
 abbrev μ-loop : tie.MeasureT-loop
 μ-loop v p n inside₀ j₀ was₀ i₀ inside j was i = count v - i
 
-before-less : (n i : ℕ) → i < n → before n i < n
+before-less : (n i : ℕ) → i < n → previous n i < n
 before-less n zero l = omega arith
 before-less n (suc k) l = rw (ne-eqb (suc k) 0 (λ e. omega arith)) (omega arith)
 
-before-next : (n i : ℕ) → i ≡ before n (i + 1)
+before-next : (n i : ℕ) → i ≡ previous n (i + 1)
 before-next n i = rw (ne-eqb (i + 1) 0 (λ e. omega arith)) (omega arith)
 
 returns : tie.Need-returns Inv-loop μ-loop
-unfolding containsOf oddly fold run edges
+unfolding containsOf oddMany fold run edges
 returns c =
     let e : count (now (c .before .before .args .v)) ≡ 0 = omega arith in
     rw e
@@ -53,7 +53,7 @@ vertex-at-requires : tie.Need-vertex-at-requires Inv-loop μ-loop
 vertex-at-requires c κs = search needs
 
 loop-holds : tie.Need-loop-holds Inv-loop μ-loop
-unfolding containsRust oddly
+unfolding containsRust oddMany
 loop-holds c = (search needs, search needs, refl, rw (c .before .before .vertex-at .ensures), rw sub-zero)
 
 vertex-at-requires-2 : tie.Need-vertex-at-requires-2 Inv-loop μ-loop

@@ -5,8 +5,8 @@ use Rattle.geometry.specs.Polygon.{onEdge}
 use Rattle.geometry.proofs.polygon.is_on.Statement.{statement}
 use Rattle.geometry.proofs.polygon.is_on.Tie as tie
 
-turn-requires : tie.Need-turn-requires
-turn-requires c κs = search needs
+cross-requires : tie.Need-cross-requires
+cross-requires c κs = search needs
 
 is-between-requires : tie.Need-is-between-requires
 is-between-requires c κs = search needs
@@ -16,7 +16,7 @@ is-between-requires-2 c κs = search needs
 
 returns : tie.Need-returns
 unfolding onEdge ofBits
-returns c = rw (c .is-between2 .ensures, c .before .is-between .ensures, c .before .before .turn .ensures)
+returns c = rw (c .is-between2 .ensures, c .before .is-between .ensures, c .before .before .cross .ensures)
 
 pub is-on-spec : {M : Type 1} → statement M
-is-on-spec = tie.close (tie.spec turn-requires is-between-requires is-between-requires-2 returns)
+is-on-spec = tie.close (tie.spec cross-requires is-between-requires is-between-requires-2 returns)

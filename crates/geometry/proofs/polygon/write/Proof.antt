@@ -8,19 +8,19 @@ use denote.Ref.{now}
 use lib.ListN.{length, drop, length-set}
 use Rattle.lists.specs.Lists.{run}
 use Rattle.boundary.specs.Outline.{count}
-use Rattle.geometry.specs.Making.{numbers}
+use Rattle.geometry.specs.Making.{coordinatesOf}
 use Rattle.geometry.proofs.WriteLaws.{pointAt, write-more, write-all}
 use Rattle.geometry.proofs.polygon.write.Statement.{statement}
 use Rattle.geometry.proofs.polygon.write.Tie as tie
 
 abbrev Inv-loop : tie.InvT-loop
-Inv-loop v back out₀ n i₀ out i = (i ≤ count v) × (out ≡ numbers (run (pointAt v back) 0 i) ++ drop (2 * i) out₀) × (length out ≡ length out₀)
+Inv-loop v back out₀ n i₀ out i = (i ≤ count v) × (out ≡ coordinatesOf (run (pointAt v back) 0 i) ++ drop (2 * i) out₀) × (length out ≡ length out₀)
 
 abbrev μ-loop : tie.MeasureT-loop
 μ-loop v back out₀ n i₀ out i = count v - i
 
 loop-holds : tie.Need-loop-holds Inv-loop μ-loop
-unfolding numbers run
+unfolding coordinatesOf run
 loop-holds c = (search needs, refl, search needs)
 
 source-requires : tie.Need-source-requires Inv-loop μ-loop

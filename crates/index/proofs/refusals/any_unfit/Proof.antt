@@ -1,6 +1,6 @@
 -- `index::refusals::any_unfit` meets its contract: what was found so far and the boxes that are left give the answer. Assumes nothing.
 use Rattle.boundary.specs.Boxes.{boxFits}
-use Rattle.entries.specs.Entries.{boxCount, boxAt, boxesOf}
+use Rattle.boxes.specs.BoxLists.{boxCount, boxAt, boxesOf}
 use Rattle.lists.specs.Lists.{run, fold, any}
 use Rattle.lists.proofs.FoldLaws.{fold-run-next, fold-run-end}
 use Rattle.boundary.specs.declared.Bounds.{Bounds}

@@ -1,11 +1,11 @@
 -- `sample::floats::float` is safe: the test says that the pattern is no NaN's. Assumes nothing.
 use borrow.Author.Needs.{needs}
-use Rattle.sample.proofs.Nan.{bits-not-nan}
+use Rattle.sample.proofs.Nan.{low-bits-not-nan}
 use Rattle.sample.proofs.floats.float.Statement.{statement}
 use Rattle.sample.proofs.floats.float.Tie as tie
 
 float-from-bits-result : tie.Need-float-from-bits-result
-float-from-bits-result c = bits-not-nan _ (c .if1 .taken)
+float-from-bits-result c = low-bits-not-nan _ (c .if1 .taken)
 
 returns : tie.Need-returns
 returns c = search needs

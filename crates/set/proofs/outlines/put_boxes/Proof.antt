@@ -11,7 +11,7 @@ use lib.Ieee.{Float}
 use Rattle.lists.specs.Lists.{run}
 use Rattle.boundary.specs.Outline.{vertices}
 use Rattle.geometry.specs.Polygon.{boundsOf}
-use Rattle.entries.specs.Entries.{boxNumbers}
+use Rattle.boxes.specs.BoxLists.{boxNumbers}
 use Rattle.lists.proofs.StoreLaws.{flat-more}
 use Rattle.set.specs.Set.{startOf, outlineAt, outlinesOf, setBoxes}
 use Rattle.set.proofs.SetLaws.{start-next, part-within, part-is}

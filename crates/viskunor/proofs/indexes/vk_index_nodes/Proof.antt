@@ -145,8 +145,8 @@ module _ {M : Type 1} (𝓤 : URA M) (H : Heap 𝓤) (A : Atoms 𝓤) (W : Given
       qed W ((‵ (flft κ₀ q₀) ⊛ Tok) ∷ ‵ OB ∷ ‵ OR ∷ []) ∵
       owned ! usize (Is usize) (uint-makes 𝓤 H A W w64) m _ (refl, small) $ move ! (0 ∷ 3 ∷ []) $ fjoin ! $ move ! (2 ∷ 0 ∷ []) $ fjoin ! $ move ! (1 ∷ 0 ∷ []) $ join ! $ frame ! $ done !
 
-  abbrev Told : Recording → List ℕ → ℕ → ℕ → Type 0
-  Told r I c d = _≡_ {A = Outcome Recording RecordsLent} (record { answer = r; lent = record { nodeCount = c; itemCount = d; items = I } }) (recordsOutcome (bs .now) m (is .now))
+  abbrev Count : Recording → List ℕ → ℕ → ℕ → Type 0
+  Count r I c d = _≡_ {A = Outcome Recording RecordsLent} (record { answer = r; lent = record { nodeCount = c; itemCount = d; items = I } }) (recordsOutcome (bs .now) m (is .now))
 
   -- what `offer` is passed, and what it says
   abbrev ArgH : Type 0
@@ -167,7 +167,7 @@ module _ {M : Type 1} (𝓤 : URA M) (H : Heap 𝓤) (A : Atoms 𝓤) (W : Given
   abbrev Offered : Recording → List Node → Type 0
   Offered r N = N ≡ take (r .count) (r .list) ++ drop (r .count) (ns .now)
 
-  exits : (r : Recording) (N : List Node) (I : List ℕ) (c d : ℕ) → r .number < 2 ^ 32 → Told r I c d → Offered r N → length N ≡ m → length I ≡ length (is .now)
+  exits : (r : Recording) (N : List Node) (I : List ℕ) (c d : ℕ) → r .number < 2 ^ 32 → Count r I c d → Offered r N → length N ≡ m → length I ≡ length (is .now)
       → ent 𝓤 (⋆ 𝓤 H A ((‵ (flft κ₁ q₁) ⊛ ‵ ftrue) ∷ (‵ (flft κ₀ q₀) ⊛ Tok) ∷ ‵ (finally T.the-row (ns .name) N) ∷ ‵ (finally u32 (is .name) I) ∷ ‵ (Ends c d) ∷ [])) (Post (vint w32 (r .number)))
   exits r N I c d small told offered en ei =
       qed W ((‵ (flft κ₁ q₁) ⊛ ‵ ftrue) ∷ (‵ (flft κ₀ q₀) ⊛ Tok) ∷ ‵ (finally T.the-row (ns .name) N) ∷ ‵ (finally u32 (is .name) I) ∷ ‵ (Ends c d) ∷ []) ∵
@@ -197,8 +197,8 @@ module _ {M : Type 1} (𝓤 : URA M) (H : Heap 𝓤) (A : Atoms 𝓤) (W : Given
       (and-then ! (load ! (from ! (stop !)) (look ! 29 refl)) (and-then ! (load ! (from ! (stop !)) (look ! 17 refl)) (and-then ! (load ! (from ! (stop !)) (look ! 13 refl)) (and-then ! (load ! (from ! (stop !)) (look ! 11 refl)) (and-then ! (load ! (from ! (stop !)) (look ! 9 refl)) (no-more !)))))) (λ u.
       use1 W (later (some (λ (r : Recording). ((‵ (flft κ₀ q₀) ⊛ Tok) ⊛ ‵ (R.the-row .own r (u ∷ []))) ⊛ raw (ensured 𝓤 H A g.ended (g.clauses 𝓤 H A mem run) κg xg tt r)))) (id⊢ 𝓤 _) $ await ! tt $ pick ! (λ r.
       split ! $ move ! (1 ∷ []) $
-      use1 W (some (λ (z : Unit {0} × (Unit {0} × (List ℕ × (ℕ × (ℕ × Unit {0}))))). ‵ (lasts g.ended κg xg z) ⊛ raw (fact 𝓤 (Told r (z .1 .1 .0) (z .1 .1 .1 .0) (z .1 .1 .1 .1 .0))))) (id⊢ 𝓤 _) $ pick ! (λ z.
-      split ! $ move ! (1 ∷ []) $ heard ! (Told r (z .1 .1 .0) (z .1 .1 .1 .0) (z .1 .1 .1 .1 .0)) (λ told.
+      use1 W (some (λ (z : Unit {0} × (Unit {0} × (List ℕ × (ℕ × (ℕ × Unit {0}))))). ‵ (lasts g.ended κg xg z) ⊛ raw (fact 𝓤 (Count r (z .1 .1 .0) (z .1 .1 .1 .0) (z .1 .1 .1 .1 .0))))) (id⊢ 𝓤 _) $ pick ! (λ z.
+      split ! $ move ! (1 ∷ []) $ heard ! (Count r (z .1 .1 .0) (z .1 .1 .1 .0) (z .1 .1 .1 .1 .0)) (λ told.
       fsplit ! $ give-up ! $ fsplit ! $ give-up ! $ fsplit ! $ fsplit ! $ move ! (1 ∷ []) $ feqL ! (λ ei.
       -- [the last items; the last fields; the tokens and what r owns; κ₁; ON; room for _14; …]
       move ! (2 ∷ []) $ split ! $ move ! (1 ∷ []) $ peeks ! R.the-row (Is R.the-row) (shows 𝓤 H A R.the-row) r (u ∷ []) (λ ok.
