@@ -701,6 +701,7 @@ int main(void)
     outline_memory();
     trees();
     sets();
+    nans();
     printf("%lu answers compared, %lu wrong\n", checks, failures);
     return failures != 0;
 }

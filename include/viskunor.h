@@ -297,9 +297,9 @@ uint32_t vk_index_meeting(const double *boxes, size_t boxes_len,
 /*
  * Sets.
  *
- * A set is 0 to 1,024 outlines, numbered from 0, of 65,536 vertices together:
- * vertices holds the outlines' vertices one after the other, and counts each
- * outline's vertex count. counts_len counts outlines. The tree is the one over
+ * A set is 0 to 1,024 outlines, numbered from 0, of at most 65,536 vertices
+ * together: vertices holds the outlines' vertices one after the other, and
+ * counts each outline's vertex count. counts_len counts outlines. The tree is the one over
  * the outlines' boxes, built in the lent index buffer, whose 511 nodes and 1,024
  * items hold only zeros after an accepted call; past them it stays as it was.
  *

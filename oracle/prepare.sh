@@ -13,11 +13,11 @@ find_docs() {
     fi
 }
 
-# prepare DOCS_SRC: at the repository's root, proves and writes libviskunor.a, and takes the
+# prepare DOCS_SRC: at the repository's root, proves and builds the library, and takes the
 # original function bodies out of the published Rust, into target/oracle/original.
 prepare() {
     mkdir -p target/oracle
-    rt staticlib viskunor >target/oracle/staticlib.log 2>&1 || { cat target/oracle/staticlib.log; return 1; }
+    ./build || return 1
     python3 -B oracle/extract_test.py 2>target/oracle/extract.log || { cat target/oracle/extract.log; return 1; }
     python3 -B oracle/extract.py "$1" oracle/items target/oracle/original
 }
@@ -25,5 +25,5 @@ prepare() {
 # compile MAIN OUT: compiles a Rust program, with what `prepare` made.
 compile() {
     VISKUNOR_ORIGINAL="$PWD/target/oracle/original" \
-        rustc --edition 2024 -O -D warnings "$1" -o "$2" -L native=target/staticlib -l static=viskunor
+        rustc --edition 2024 -O -D warnings "$1" -o "$2" -L native=target/lib -l static=viskunor
 }
