@@ -10,7 +10,7 @@ use lib.Ieee.Fits.{and-l, and-r, and-i, add-fits, sub-fits}
 use Rattle.algebra.specs.Order.{Within, within-natAbs, natAbs-neg, natAbs-add, le-of-within}
 use Rattle.number.specs.Exact.{Is, Sized, Held}
 use Rattle.number.specs.Hypot.{Short}
-use Rattle.signs.specs.Signs.{absOf}
+use Rattle.number.specs.Signs.{absOf}
 use Rattle.number.proofs.Operations.{equation→is, neg-is, finite-is, is-held}
 use Rattle.number.proofs.RoundingLaws.{rounded-within}
 use Rattle.number.proofs.ExactLaws.{sub-result}

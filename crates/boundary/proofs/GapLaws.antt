@@ -4,7 +4,7 @@ use lib.Dec.{T}
 use lib.Ieee.{Float, nan, inf, fin, binary64, add, sub, neg, lt, le, eq, isNan, fits}
 use lib.Ieee.Scale.{finite}
 use Rattle.number.specs.Exact.{Held, zeroᶠ}
-use Rattle.signs.specs.Signs.{absOf, maxOf}
+use Rattle.number.specs.Signs.{absOf, maxOf}
 use Rattle.number.proofs.Operations.{finite-is, sub-rounds}
 use Rattle.number.proofs.HypotLaws.{hypot-mono}
 use Rattle.number.proofs.OrderLaws.{le-self, le-through, max-one-of, abs-nonneg, abs-at-most, le-max-left, le-max-right, right-not-nan}

@@ -5,7 +5,7 @@ use lib.IntN.{pos, negsuc}
 use lib.Ieee.{Float, fin, inf, binary64, add, sub, mul, neg, lt, le, fits}
 use Rattle.number.specs.Exact.{Held, zeroᶠ, one}
 use Rattle.number.specs.Hypot.{hypotOf}
-use Rattle.signs.specs.Signs.{absOf, maxOf}
+use Rattle.number.specs.Signs.{absOf, maxOf}
 use Rattle.boundary.specs.declared.Point.{Point}
 use Rattle.boundary.specs.declared.Edge.{Edge}
 use Rattle.boundary.specs.declared.Bounds.{Bounds}

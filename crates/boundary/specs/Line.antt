@@ -5,7 +5,7 @@ use lib.Ieee.{Float, fin, binary64, add, sub, mul, div, neg, lt, eq}
 use Rattle.number.specs.Exact.{zeroᶠ, one}
 use Rattle.number.specs.Root.{sqrtOf}
 use Rattle.number.specs.Hypot.{hypotOf}
-use Rattle.signs.specs.Signs.{clampOf}
+use Rattle.number.specs.Signs.{clampOf}
 use Rattle.boundary.specs.declared.Point.{Point}
 use Rattle.boundary.specs.declared.Edge.{Edge}
 use Rattle.boundary.specs.declared.Near.{Near}

@@ -77,13 +77,13 @@ pub fn edge_at(v: &[f64], i: usize) -> Edge
 pub fn lesser_of(a: f64, b: f64) -> f64
     ensures { λ r. ⌜ r ≡ lesser a b ⌝ }
 {
-    signs::pick(b < a, b, a)
+    number::signs::pick(b < a, b, a)
 }
 
 pub fn greater_of(a: f64, b: f64) -> f64
     ensures { λ r. ⌜ r ≡ greater a b ⌝ }
 {
-    signs::pick(a < b, b, a)
+    number::signs::pick(a < b, b, a)
 }
 
 // Half the sum.

@@ -7,7 +7,7 @@ use crate::Point;
 use number::choices;
 use number::root::hypot;
 use number::root::sqrt;
-use signs::pick;
+use number::signs::pick;
 
 // From a to b.
 fn way(e: Edge) -> Point

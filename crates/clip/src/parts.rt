@@ -7,7 +7,7 @@ use crate::Marks;
 use boundary::Edge;
 use boundary::Point;
 use boundary::line::along;
-use signs::pick;
+use number::signs::pick;
 
 // The coordinate that the half-plane bounds.
 fn coord(s: HalfPlane, p: Point) -> f64

@@ -15,7 +15,7 @@ use crate::parts;
 use crate::scan;
 use boundary::Edge;
 use boundary::Point;
-use signs::pick;
+use number::signs::pick;
 
 fn put(w: &mut [f64], o: usize, e: Edge)
     requires { ⌜ o + 4 ≤ length (now w) ⌝ }

@@ -8,7 +8,7 @@ use borrow.Author.Tests.{ne-eqb}
 use lib.Dec.{T}
 use lib.ListN.{length}
 use lib.Ieee.{Float, inf, isNan}
-use Rattle.signs.specs.Signs.{absOf}
+use Rattle.number.specs.Signs.{absOf}
 use Rattle.number.proofs.OrderLaws.{below-le, left-not-nan}
 use Rattle.number.proofs.Values.{abs-is, below-infinity}
 use Rattle.boundary.specs.declared.Point.{Point}

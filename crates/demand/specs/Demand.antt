@@ -6,7 +6,7 @@ use Prim.Native.Nat.{ℕ, _<_}
 use lib.ListN.{length}
 use lib.Ieee.{Float}
 use Rattle.number.specs.Exact.{Is}
-use Rattle.signs.specs.Signs.{absOf}
+use Rattle.number.specs.Signs.{absOf}
 use Rattle.boundary.specs.declared.Point.{Point}
 use Rattle.boundary.specs.declared.Distance.{Distance}
 use Rattle.boundary.specs.Outline.{edges}

@@ -7,7 +7,7 @@ use lib.Ieee.{Float, binary64, mul, div, lt, le, eq, fits}
 use lib.Ieee.Bits.{is-true}
 use Rattle.number.specs.Exact.{Held}
 use Rattle.number.specs.Hypot.{shortEnd, Short}
-use Rattle.signs.specs.Signs.{absOf}
+use Rattle.number.specs.Signs.{absOf}
 use Rattle.number.proofs.RoundingLaws.{div-opposite}
 use Rattle.number.proofs.Monotone.{mul-mono-left}
 use Rattle.number.proofs.OrderLaws.{max-one-of, through-below}

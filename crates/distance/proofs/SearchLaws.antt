@@ -26,7 +26,7 @@ use Rattle.distance.specs.declared.FoundEdge.{FoundEdge}
 use Rattle.lists.specs.Lists.{run, fold, any}
 use Rattle.boundary.specs.Outline.{count, after, vertexAt, edgeAt, edges}
 use Rattle.boundary.specs.Line.{lessPoint, squaresOf, footOf, normalOf, lineNear}
-use Rattle.pieces.specs.Piece.{pieceOf, pieceNear}
+use Rattle.distance.specs.Piece.{pieceOf, pieceNear}
 use Rattle.distance.specs.Nearest.{nearer, farAway, nearestOf}
 use Rattle.boundary.specs.Boxes.{inField, pointInField, edgeInField, PointOf, FieldValue, FieldPoint, FieldEdge}
 use Rattle.distance.specs.Search.{margin, outside, gapSquares, lengthTo, foundOf, edgeWins}

@@ -4,13 +4,13 @@ use mathlib.Core.List.{List}
 use lib.IntN.{negsuc}
 use lib.Ieee.{Float, inf, fin, binary64, sub, mul, div, neg, lt}
 use Rattle.number.specs.Exact.{zeroᶠ, one}
-use Rattle.signs.specs.Signs.{absOf, maxOf}
+use Rattle.number.specs.Signs.{absOf, maxOf}
 use Rattle.boundary.specs.declared.Point.{Point}
 use Rattle.boundary.specs.declared.Edge.{Edge}
 use Rattle.boundary.specs.declared.Near.{Near}
 use Rattle.boundary.specs.declared.Distance.{Distance}
 use Rattle.lists.specs.Lists.{fold}
-use Rattle.pieces.specs.Piece.{pieceOf, pieceNear}
+use Rattle.distance.specs.Piece.{pieceOf, pieceNear}
 
 -- ---- `distance`: the first among equals
 abbrev pub nearer : Near → Near → Near

@@ -23,9 +23,9 @@ use boundary::vertex_at;
 use number::root::clear_limit;
 use number::root::hypot;
 use number::root::hypot_less;
-use signs::abs;
-use signs::max;
-use signs::pick;
+use number::signs::abs;
+use number::signs::max;
+use number::signs::pick;
 
 // 16 units in the last place of 1.
 const UNITS16: f64 = 0.0000000000000035527136788005009;

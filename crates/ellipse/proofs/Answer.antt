@@ -9,11 +9,11 @@ use lib.Ieee.{Float, binary64, add, sub, neg, le, fits}
 use lib.Ieee.Fits.{and-l, and-r, sub-fits}
 use Rattle.number.specs.Exact.{zeroᶠ}
 use Rattle.number.specs.Hypot.{hypotOf}
-use Rattle.signs.specs.Signs.{absOf}
+use Rattle.number.specs.Signs.{absOf}
 use Rattle.boundary.specs.declared.Point.{Point}
 use Rattle.boundary.specs.declared.Distance.{Distance}
-use Rattle.pieces.specs.Ellipse.{ellipseNearest, ellipseNear}
-use Rattle.pieces.specs.Piece.{pieceNear}
+use Rattle.distance.specs.Ellipse.{ellipseNearest, ellipseNear}
+use Rattle.distance.specs.Piece.{pieceNear}
 use Rattle.accept.specs.declared.Answer.the-variants.{Refused, DistanceWith}
 use Rattle.accept.specs.declared.Refusal.{Refusal}
 use Rattle.accept.specs.declared.Refusal.the-variants.{BadPoint, BadEllipse}

@@ -5,13 +5,13 @@ use mathlib.Core.Bool.{Bool, true, false, cond}
 use lib.Dec.{T}
 use lib.Ieee.{Float, neg, le, lt, eq, fits}
 use Rattle.number.specs.Exact.{Held, zeroᶠ}
-use Rattle.signs.specs.Signs.{absOf}
-use Rattle.signs.proofs.SignLaws.{copysign-sign}
+use Rattle.number.specs.Signs.{absOf}
+use Rattle.number.proofs.SignLaws.{copysign-sign}
 use Rattle.number.proofs.Basics.{or-split}
 use Rattle.number.proofs.OrderLaws.{below-le, not-below, abs-bounds}
 use Rattle.number.proofs.Values.{zero-held, abs-held, held-not-nan}
 use Rattle.boundary.specs.declared.Point.{Point}
-use Rattle.pieces.specs.Ellipse.{longNearest, ellipseNearest, swapped}
+use Rattle.distance.specs.Ellipse.{longNearest, ellipseNearest, swapped}
 use Rattle.ellipse.specs.Ellipse.{leastOffset}
 use Rattle.ellipse.specs.Meaning.{SemiAxis, mostOffset, Offset, InQuadrant, QuadrantPoint}
 use Rattle.ellipse.proofs.Ranges.{Bounded, tested-range, equal-range, copysign-range, abs-range}

@@ -7,15 +7,15 @@ use lib.Ieee.{Float, fin, minus, binary64, add, sub, mul, div, neg, le, lt, eq, 
 use Rattle.number.specs.Exact.{zeroᶠ, one}
 use Rattle.number.specs.Root.{sqrtOf}
 use Rattle.number.specs.Hypot.{hypotOf, squareLeast, squareEnd}
-use Rattle.signs.specs.Signs.{absOf, maxOf}
+use Rattle.number.specs.Signs.{absOf, maxOf}
 use Rattle.number.proofs.OrderLaws.{below-not-le, below-through, through-below, le-through}
 use Rattle.number.proofs.Values.{held-not-nan}
 use Rattle.number.proofs.HypotRange.{power, doubled-71, hypot-at-least}
 use Rattle.number.proofs.Monotone.{one-le-quotient}
 use Rattle.boundary.specs.declared.Point.{Point}
-use Rattle.pieces.specs.declared.Curve.{Curve}
+use Rattle.distance.specs.declared.Curve.{Curve}
 use Rattle.boundary.specs.Line.{half, middle}
-use Rattle.pieces.specs.Ellipse.{square, excess, curveAt, halve, halvedOf, upperEnd, curveOf, rootIn, footAt, offAxes, onAxis, quadrantNearest}
+use Rattle.distance.specs.Ellipse.{square, excess, curveAt, halve, halvedOf, upperEnd, curveOf, rootIn, footAt, offAxes, onAxis, quadrantNearest}
 use Rattle.ellipse.proofs.Ranges.{Ranged, Bounded, part, number-range, wider, sum-range, difference-range, product-range, multiple-range, quotient-range, root-range, abs-range, hypot-range, max-zero-range, above-range, above-zero-range}
 
 -- a semi-axis

@@ -14,11 +14,11 @@ use Rattle.algebra.specs.Order.{_≦_, ord, ≤ℤ-of-eq}
 use Rattle.number.specs.Exact.{Is, Held, zeroᶠ, one}
 use Rattle.number.specs.Root.{sqrtOf}
 use Rattle.number.specs.Hypot.{hypotOf}
-use Rattle.signs.specs.Signs.{signBit, absOf, copysignOf, maxOf}
+use Rattle.number.specs.Signs.{signBit, absOf, copysignOf, maxOf}
 use Rattle.number.proofs.Basics.{or-split}
 use Rattle.number.proofs.Operations.{zero-is, finite-is, equation→is}
 use Rattle.number.proofs.Compare.{eq→, le-neg}
-use Rattle.signs.proofs.SignLaws.{copysign-negates, abs-negates}
+use Rattle.number.proofs.SignLaws.{copysign-negates, abs-negates}
 use Rattle.number.proofs.OrderLaws.{is-order, order-is, is-below, le-self, below-le, le-through, below-through, finite-between, le-abs, abs-nonneg, max-one-of, le-max-right}
 use Rattle.number.proofs.Values.{zero-held, neg-held, abs-held, held-not-nan}
 use Rattle.number.proofs.Monotone.{add-mono, sub-mono, mul-mono-left, mul-mono-both, div-mono-both}

@@ -3,11 +3,11 @@ use mathlib.Core.Bool.{Bool, false, not, _&&_, _||_}
 use lib.IntN.{pos, negsuc}
 use lib.Ieee.{Float, fin, binary64, sub, le, eq}
 use Rattle.number.specs.Exact.{zeroᶠ}
-use Rattle.signs.specs.Signs.{absOf}
+use Rattle.number.specs.Signs.{absOf}
 use Rattle.boundary.specs.declared.Point.{Point}
 use Rattle.boundary.specs.Boxes.{pointInField}
-use Rattle.pieces.specs.declared.Piece.the-variants.{Ellipse}
-use Rattle.pieces.specs.Piece.{pieceNear}
+use Rattle.distance.specs.declared.Piece.the-variants.{Ellipse}
+use Rattle.distance.specs.Piece.{pieceNear}
 use Rattle.accept.specs.declared.Answer.{Answer}
 use Rattle.accept.specs.declared.Answer.the-variants.{Refused, DistanceWith}
 use Rattle.accept.specs.declared.Refusal.the-variants.{BadPoint, BadEllipse}

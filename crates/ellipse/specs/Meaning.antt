@@ -6,11 +6,11 @@ use lib.Dec.{T}
 use lib.Ieee.{Float, fin, binary64, add, le, eq, fits}
 use lib.Ieee.Scale.{finite}
 use Rattle.number.specs.Exact.{zeroᶠ}
-use Rattle.signs.specs.Signs.{signBit, absOf}
+use Rattle.number.specs.Signs.{signBit, absOf}
 use Rattle.boundary.specs.declared.Point.{Point}
 use Rattle.boundary.specs.declared.Distance.{Distance}
 use Rattle.boundary.specs.Line.{lessPoint}
-use Rattle.pieces.specs.Ellipse.{ellipseNearest}
+use Rattle.distance.specs.Ellipse.{ellipseNearest}
 use Rattle.ellipse.specs.Ellipse.{axisFits, leastOffset}
 
 -- ---- what is given: numbers of `f64`

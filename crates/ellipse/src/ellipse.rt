@@ -8,7 +8,7 @@ use accept::refusals::point_in_field;
 use accept::refusals::refusing;
 use boundary::Distance;
 use boundary::Point;
-use pieces::Piece;
+use distance::Piece;
 
 // 2^-10 and 2^-20.
 const LEAST_AXIS: f64 = 0.0009765625;
@@ -26,7 +26,7 @@ fn offset_fits(c: f64, p: f64) -> bool
     ensures { λ r. ⌜ r ≡ offsetFits c p ⌝ }
 {
     let d = p - c;
-    (d == 0.0) | (LEAST_OFFSET <= signs::abs(d))
+    (d == 0.0) | (LEAST_OFFSET <= number::signs::abs(d))
 }
 
 // Whether test 12 is passed.

@@ -26,7 +26,7 @@ use Rattle.boundary.specs.declared.Near.{Near}
 use Rattle.boundary.specs.declared.Distance.{Distance}
 use Rattle.lists.specs.Lists.{fold, any, Every, Some}
 use Rattle.boundary.specs.Line.{lineNear}
-use Rattle.pieces.specs.Piece.{pieceNear}
+use Rattle.distance.specs.Piece.{pieceNear}
 use Rattle.distance.specs.Nearest.{nearer, farAway, nearestOf, roundingOf, flipped, signedOf}
 use Rattle.geometry.specs.Polygon.{containsOf}
 use Rattle.accept.specs.Refusals.{samePoint}

@@ -13,7 +13,7 @@ use Rattle.algebra.specs.Lin.{le, lt, le-from}
 use Rattle.algebra.specs.Mono.{mul-mono}
 use Rattle.number.specs.Exact.{Is, zeroᶠ, one}
 use Rattle.number.specs.Rounding.{Result}
-use Rattle.signs.specs.Signs.{clampOf}
+use Rattle.number.specs.Signs.{clampOf}
 use Rattle.number.proofs.Operations.{equation→is, zero-is}
 use Rattle.number.proofs.OrderLaws.{clamp-is}
 use Rattle.number.proofs.RoundingLaws.{rounded-within, rounded-relative, rounded-nonneg, rounded-nonpos}

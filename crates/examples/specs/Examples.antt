@@ -7,7 +7,7 @@ use lib.IntN.{pos, negsuc}
 use lib.Ieee.{Float, fin, binary64, ofInt, neg, add, sub, mul, div, lt, le, eq, ne, isNan}
 use Rattle.number.specs.Root.{sqrtOf}
 use Rattle.number.specs.Hypot.{hypotOf}
-use Rattle.signs.specs.Signs.{signBit, withSign, absOf, copysignOf, standsBefore, maxOf, clampOf}
+use Rattle.number.specs.Signs.{signBit, withSign, absOf, copysignOf, standsBefore, maxOf, clampOf}
 use Rattle.boundary.specs.declared.Point.{Point}
 use Rattle.boundary.specs.declared.Bounds.{Bounds}
 use Rattle.boundary.specs.declared.Near.{Near}
@@ -17,9 +17,9 @@ use Rattle.lists.specs.Lists.{run, fold, any, oddMany, total, atFront, zeros}
 use Rattle.boundary.specs.Outline.{vertices, edges}
 use Rattle.boundary.specs.Length.{edgeLength, lengthOf}
 use Rattle.boundary.specs.Line.{paramOf, alongOf, footOf, normalOf, lineNear}
-use Rattle.pieces.specs.Piece.{pieceNear}
+use Rattle.distance.specs.Piece.{pieceNear}
 use Rattle.distance.specs.Nearest.{nearestOf, roundingOf, signedOf}
-use Rattle.pieces.specs.Ellipse.{quadrantNearest, onAxis, longNearest, ellipseNearest, ellipseFoot, ellipseNear}
+use Rattle.distance.specs.Ellipse.{quadrantNearest, onAxis, longNearest, ellipseNearest, ellipseFoot, ellipseNear}
 use Rattle.accept.specs.declared.Answer.{Answer}
 use Rattle.accept.specs.declared.Answer.the-variants.{Refused, Count, Measure, DistanceWith}
 use Rattle.accept.specs.declared.Refusal.the-variants.{ZeroArea, BadPoint, ShortBuffer}

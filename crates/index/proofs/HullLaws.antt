@@ -9,7 +9,7 @@ use lib.ListN.{length}
 use lib.Ieee.{Float, nan, inf, fin, binary64, mul, neg, lt, le}
 use lib.Ieee.Fits.{and-l, and-r}
 use lib.Ieee.Scale.{finite}
-use Rattle.signs.specs.Signs.{absOf, maxOf}
+use Rattle.number.specs.Signs.{absOf, maxOf}
 use Rattle.number.proofs.OrderLaws.{finite-between, max-one-of}
 use Rattle.number.proofs.Values.{add-not-nan, sub-not-nan, mul-not-nan, abs-finite}
 use Rattle.boundary.specs.declared.Bounds.{Bounds}

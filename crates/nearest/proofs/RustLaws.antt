@@ -10,7 +10,7 @@ use lib.Dec.{T, eqb, ltb}
 use lib.ListN.{length}
 use lib.Ieee.{Float, lt, le, eq, isNan}
 use lib.Ieee.Bits.{is-true}
-use Rattle.signs.specs.Signs.{signBit}
+use Rattle.number.specs.Signs.{signBit}
 use Rattle.number.proofs.OrderLaws.{le-through, below-through, below-le, below-not-le, not-below, level-le}
 use Rattle.boundary.specs.declared.Point.{Point}
 use Rattle.boundary.specs.declared.Bounds.{Bounds}

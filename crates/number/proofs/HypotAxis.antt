@@ -16,7 +16,7 @@ use lib.Ieee.Scale.{round-same}
 use lib.Ieee.Positive.{positive, above-of-le, positive-of-value, values-of-le, first-pos}
 use Rattle.number.specs.Exact.{zeroᶠ}
 use Rattle.number.specs.Root.{rootOf, sqrtOf, NearestWhole, plus-fin}
-use Rattle.signs.specs.Signs.{absOf}
+use Rattle.number.specs.Signs.{absOf}
 use Rattle.number.specs.Hypot.{hypotOf, squareLeast, squareEnd}
 use Rattle.number.proofs.Basics.{pow-lt-says}
 use Rattle.number.proofs.Tests.{not-zero}

@@ -8,7 +8,7 @@ use lib.Ieee.{Float, nan, inf, fin, binary64, add, mul, le, isNan, fits}
 use lib.Ieee.Fits.{add-fits}
 use Rattle.number.specs.Exact.{zeroᶠ}
 use Rattle.number.specs.Root.{sqrtOf, Plus, plus-inf, plus-fin}
-use Rattle.signs.specs.Signs.{absOf}
+use Rattle.number.specs.Signs.{absOf}
 use Rattle.number.specs.Hypot.{hypotOf}
 use Rattle.number.proofs.PlusLaws.{zero-le, plus-not-nan, add-swap, square-abs, add-plus, plus-add-mono, square-plus, square-mono}
 use Rattle.number.proofs.SqrtLaws.{sqrt-plus, sqrt-mono}

@@ -17,7 +17,7 @@ use borrow.Author.Tests.{leb-true, leb-false}
 use Rattle.algebra.specs.Sign.{natAbs-signed}
 use Rattle.number.specs.Exact.{Is, zeroᶠ}
 use Rattle.number.specs.Root.{sqrtOf, Plus, plus-inf, plus-fin}
-use Rattle.signs.specs.Signs.{absOf}
+use Rattle.number.specs.Signs.{absOf}
 use Rattle.number.specs.Hypot.{hypotOf, vanishes}
 use Rattle.number.proofs.Tests.{is-zero, not-zero, above-not-zero}
 use Rattle.number.proofs.Doubles.{round-fixed}

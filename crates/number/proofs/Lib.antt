@@ -13,6 +13,8 @@ pub mod Compare
 pub mod OrderLaws
 -- The larger of a number and a magnitude, and the clamp to 0..1, by comparisons.
 pub mod ChoiceLaws
+-- The sign bit, and what is computed by it.
+pub mod SignLaws
 -- Finite values: magnitudes, sizes of rounded results.
 pub mod Values
 -- Sums, differences, products and quotients keep the order of floats.

@@ -15,12 +15,12 @@ use Rattle.algebra.specs.Order.{_≦_, _≺_, ≤ℤ-trans, ≤ℤ-of-eq}
 use Rattle.algebra.specs.Sign.{signed}
 use Rattle.number.specs.Exact.{Is, zeroᶠ}
 use Rattle.number.specs.Root.{Plus, plus-inf, plus-fin}
-use Rattle.signs.specs.Signs.{signBit, absOf, standsBefore, maxOf, clampOf}
+use Rattle.number.specs.Signs.{signBit, absOf, standsBefore, maxOf, clampOf}
 use Rattle.number.proofs.Basics.{or-l, or-r, or-split, one-of}
 use Rattle.number.proofs.Operations.{equation→is, rescale}
 use Rattle.number.proofs.Compare.{lt-is, le-is, eq→, not-lt, le-of-signs, le-neg}
 use Rattle.number.proofs.Tests.{le-not-nan}
-use Rattle.signs.proofs.SignLaws.{abs-negates}
+use Rattle.number.proofs.SignLaws.{abs-negates}
 use Rattle.number.proofs.PlusLaws.{zero-le}
 
 -- ---- exact values and the order

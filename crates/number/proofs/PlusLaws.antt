@@ -15,7 +15,7 @@ use lib.Ieee.Scale.{round-same}
 use borrow.Author.Tests.{ltb-true, ltb-false}
 use Rattle.number.specs.Exact.{zeroᶠ}
 use Rattle.number.specs.Root.{Plus, plus-inf, plus-fin}
-use Rattle.signs.specs.Signs.{absOf}
+use Rattle.number.specs.Signs.{absOf}
 use Rattle.number.proofs.Basics.{or-split}
 use Rattle.number.proofs.Compare.{HasSign}
 use Rattle.number.proofs.RoundingLaws.{round-sign}

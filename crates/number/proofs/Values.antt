@@ -15,11 +15,11 @@ use Rattle.algebra.specs.Order.{ord, natAbs-neg, natAbs-add, natAbs-mul, natAbs
 use Rattle.algebra.specs.Sign.{natAbs-signed}
 use Rattle.number.specs.Exact.{Is, Sized, Held, zeroᶠ}
 use Rattle.number.specs.Rounding.{Rounds, Rounded}
-use Rattle.signs.specs.Signs.{signBit, absOf}
+use Rattle.number.specs.Signs.{signBit, absOf}
 use Rattle.number.specs.Hypot.{shortEnd, Short}
 use Rattle.number.proofs.Operations.{Equation, is→equation, equation→is, zero-is, neg-is, finite-is, is-held, rounds-same, add-rounds, mul-rounds, div-rounds}
 use Rattle.number.proofs.Compare.{HasSign}
-use Rattle.signs.proofs.SignLaws.{abs-negates}
+use Rattle.number.proofs.SignLaws.{abs-negates}
 use Rattle.number.proofs.RoundingLaws.{round-sign, rounded-size}
 use Rattle.number.proofs.ExactLaws.{add-result, mul-result}
 use Rattle.number.proofs.Doubles.{round-fixed}

@@ -5,7 +5,7 @@ use lib.IntN.{pos, negsuc}
 use lib.Ieee.{Float, fin, binary64, mul, add, lt, eq, le}
 use Rattle.number.specs.Exact.{Held, zeroᶠ}
 use Rattle.number.specs.Root.{sqrtOf}
-use Rattle.signs.specs.Signs.{absOf}
+use Rattle.number.specs.Signs.{absOf}
 
 -- √(a * a + b * b), each of the four operations rounded once
 unfoldable pub hypotOf : Float → Float → Float

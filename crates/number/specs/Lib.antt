@@ -1,5 +1,7 @@
 -- What the number layer promises. Definitions only.
 
+-- Absolute value, copysign, minimum, maximum, clamp.
+pub mod Signs
 -- The square root, and what "nearest to the exact root" says.
 pub mod Root
 -- The length of (a, b).

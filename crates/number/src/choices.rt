@@ -3,9 +3,9 @@ ghost use mathlib.Core.Bool.{true, false};
 ghost use mathlib.Core.Path.{_≡_};
 ghost use lib.Dec.{T};
 ghost use lib.Ieee.{le, eq};
-ghost use Rattle.signs.specs.Signs.{absOf, maxOf, clampOf};
+ghost use Rattle.number.specs.Signs.{absOf, maxOf, clampOf};
 ghost use Rattle.number.specs.Exact.{zeroᶠ, one};
-use signs::pick;
+use crate::signs::pick;
 
 // The larger of s, which is 1 at least, and the magnitude of y. Where s is that large, the sign of a zero y does not show.
 pub fn larger(s: f64, y: f64) -> f64

@@ -6,9 +6,9 @@ ghost use lib.Dec.{ltb};
 ghost use lib.Ieee.{le, lt};
 ghost use Rattle.number.specs.Root.{rootOf, sqrtOf, NearestWhole};
 ghost use Rattle.number.specs.Hypot.{hypotOf, squareLeast, squareEnd, clearlyLess, clearLimit, Short};
-ghost use Rattle.signs.specs.Signs.{absOf};
-use signs::abs;
-use signs::pick;
+ghost use Rattle.number.specs.Signs.{absOf};
+use crate::signs::abs;
+use crate::signs::pick;
 use std::num::wrapping_sub_u64;
 
 // 2^-511 and 2^512.

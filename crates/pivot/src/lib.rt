@@ -342,7 +342,7 @@ fn window(keys: &[f64], l: f64, h: f64, list: &[u32], work: &mut [u32]) -> Brack
 
 // How far from the middle of the keys' range the middle item is looked for first, in parts of the range.
 fn margin(n: usize) -> f64 {
-    signs::pick(n <= 32, 0.2, signs::pick(n <= 256, 0.1, 0.05))
+    number::signs::pick(n <= 32, 0.2, number::signs::pick(n <= 256, 0.1, 0.05))
 }
 
 // The item in the middle of many: first near the middle of the keys' range.

@@ -10,7 +10,7 @@ pub fn float(bits: u64) -> f64 {
 
 // Writes the bits of x, or 'nan'.
 pub fn write(x: f64) {
-    if signs::is_nan(x) {
+    if number::signs::is_nan(x) {
         io::write_all(1, b"nan");
     } else {
         io::print_hex(1, f64::to_bits(x), 16);

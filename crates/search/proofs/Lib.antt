@@ -14,3 +14,11 @@ pub mod WaitLaws
 pub mod SearchLaws
 -- The search of an index of a set: how it begins, and what it ends with.
 pub mod SetSearch
+-- ---- the waiting heap: the root is least, what holds of all entries stays so, the popped gap is at most every other
+pub mod HeapLaws
+-- The order of entries is total.
+pub mod EntryOrder
+-- Totals of weights, and which entries a heap has.
+pub mod Contents
+-- An entry moves up or down by exchanges.
+pub mod SiftLaws

@@ -17,7 +17,7 @@ use lib.Pow.{pow-pos}
 use Rattle.number.specs.Exact.{zeroᶠ}
 use Rattle.number.proofs.OrderLaws.{abs-neg, abs-plus}
 use Rattle.number.specs.Root.{Plus, plus-inf, plus-fin}
-use Rattle.signs.specs.Signs.{absOf}
+use Rattle.number.specs.Signs.{absOf}
 use Rattle.number.proofs.HypotLaws.{hypot-fits, hypot-plus}
 use Rattle.number.proofs.Values.{held-not-nan}
 use Rattle.boundary.specs.declared.Point.{Point}
@@ -30,7 +30,7 @@ use Rattle.lists.specs.Lists.{run, fold}
 use Rattle.boundary.specs.Line.{footOf, lineNear}
 use Rattle.distance.specs.Nearest.{nearer, farAway, nearestOf, roundingOf, flipped, awayAlong, signedOf}
 use Rattle.boundary.specs.Outline.{count, after, vertexAt, edgeAt, vertices, edges}
-use Rattle.pieces.specs.Piece.{pieceNear}
+use Rattle.distance.specs.Piece.{pieceNear}
 use Rattle.boundary.proofs.BoxLaws.{around-inside}
 use Rattle.boundary.proofs.FieldLaws.{field-not-nan}
 use Rattle.distance.proofs.SearchLaws.{foot-near, near-finite, nearerStep}

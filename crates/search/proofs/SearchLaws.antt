@@ -12,9 +12,9 @@ use Rattle.number.proofs.OrderLaws.{le-through, below-through, below-le, below-
 use Rattle.boundary.specs.declared.Point.{Point}
 use Rattle.lists.proofs.MemberLaws.{times-append}
 use Rattle.lists.specs.Lists.{times, In}
-use Rattle.heap.specs.declared.Entry.{Entry}
-use Rattle.heap.specs.Heap.{Heaped, totalWeight, Pushed, Popped}
-use Rattle.heap.proofs.HeapLaws.{all-kept, all-left, popped-gap}
+use Rattle.search.specs.declared.Entry.{Entry}
+use Rattle.search.specs.Heap.{Heaped, totalWeight, Pushed, Popped}
+use Rattle.search.proofs.HeapLaws.{all-kept, all-left, popped-gap}
 use Rattle.tree.specs.Tree.{itemsOf}
 use Rattle.nodes.specs.Layout.{extra, firstAt, countAt}
 use Rattle.index.specs.Buffer.{IndexBuffer, nodeBox, leafItems}

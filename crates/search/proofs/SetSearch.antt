@@ -7,14 +7,14 @@ use native.Mathlib.Omega.{arith}
 use lib.ListN.{length}
 use lib.Ieee.{Float, inf, binary64, sub, isNan}
 use Rattle.number.specs.Exact.{zeroᶠ}
-use Rattle.signs.specs.Signs.{maxOf}
+use Rattle.number.specs.Signs.{maxOf}
 use Rattle.number.proofs.OrderLaws.{le-max-right, right-not-nan}
 use Rattle.number.proofs.HypotLaws.{hypot-not-nan}
 use Rattle.boundary.specs.declared.Point.{Point}
 use Rattle.boundary.specs.declared.Bounds.{Bounds}
 use Rattle.boundary.specs.Boxes.{FieldPoint, gapAlong, gapOf}
-use Rattle.heap.specs.declared.Entry.{Entry}
-use Rattle.heap.specs.Heap.{Pushed}
+use Rattle.search.specs.declared.Entry.{Entry}
+use Rattle.search.specs.Heap.{Pushed}
 use Rattle.boundary.proofs.AroundLaws.{NotNan}
 use Rattle.index.specs.Buffer.{IndexBuffer}
 use Rattle.set.specs.Set.{Outline, Fitting, DoubleSet}

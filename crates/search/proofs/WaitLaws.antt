@@ -9,7 +9,7 @@ use lib.Dec.{ltb}
 use Rattle.boundary.specs.declared.Point.{Point}
 use Rattle.boundary.specs.declared.Bounds.{Bounds}
 use Rattle.boundary.specs.Boxes.{gapOf}
-use Rattle.heap.specs.declared.Entry.{Entry}
+use Rattle.search.specs.declared.Entry.{Entry}
 use Rattle.tree.specs.Tree.{Tree, leaf, inner, itemsOf, EachNode}
 use Rattle.nodes.specs.Layout.{extra, firstAt, countAt}
 use Rattle.index.specs.Buffer.{IndexBuffer, nodeBox, leafItems, Stands}

@@ -10,8 +10,8 @@ use Rattle.boundary.specs.declared.Point.{Point}
 use Rattle.boundary.specs.declared.Bounds.{Bounds}
 use Rattle.boundary.specs.Boxes.{Around, pointInField, widenedOf, gapOf, DoubleBox}
 use Rattle.lists.specs.Lists.{fold, In}
-use Rattle.heap.specs.declared.Entry.{Entry}
-use Rattle.heap.specs.Heap.{Pushed}
+use Rattle.search.specs.declared.Entry.{Entry}
+use Rattle.search.specs.Heap.{Pushed}
 use Rattle.boxes.specs.BoxLists.{boxAt}
 use Rattle.tree.specs.Tree.{Tree, itemsOf, EachNode}
 use Rattle.nodes.specs.Layout.{extra}

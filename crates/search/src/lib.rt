@@ -1,4 +1,6 @@
 // The search of a set's index for the nearest outline, with a waiting heap: the walk of `nearest` (index.rs).
+pub mod heap;
+
 ghost use mathlib.Core.Path.{_≡_};
 ghost use mathlib.Core.Bool.{true, false, not};
 ghost use Prim.Native.Nat.{ℕ, _+_, _<_, _^_};
@@ -9,8 +11,8 @@ ghost use Rattle.boundary.specs.Boxes.{inField, pointInField, gapAlong, gapOf};
 ghost use Rattle.lists.specs.Lists.{run, any, In};
 ghost use Rattle.distance.specs.Nearest.{nearestOf};
 ghost use Rattle.boundary.specs.Outline.{count, edges};
-ghost use Rattle.heap.specs.Order.{NumberGap};
-ghost use Rattle.heap.specs.Heap.{entryAt, Heaped};
+ghost use Rattle.search.specs.Order.{NumberGap};
+ghost use Rattle.search.specs.Heap.{entryAt, Heaped};
 ghost use Rattle.boxes.specs.BoxLists.{boxAt};
 ghost use Rattle.nodes.specs.Layout.{itemAt};
 ghost use Rattle.index.specs.Buffer.{buffer};
@@ -20,8 +22,14 @@ ghost use Rattle.search.specs.Least.{magnitudeAt, leastIn};
 ghost use Rattle.search.specs.Walk.{improved, bestOf, Asked, Searched, Opened, entryFor};
 use boundary::Point;
 use number::root::hypot;
+use number::signs::max;
 use set::outlines::outline_at;
-use signs::max;
+
+// A node that waits, with its gap: its distance from the point.
+pub struct Entry {
+    pub gap: f64,
+    pub node: u32,
+}
 
 // An outline's number, and the magnitude of its distance.
 pub struct Best {

@@ -9,7 +9,7 @@ use lib.Ieee.{Float, nan, inf, fin, lt, eq, le, isNan}
 use lib.Ieee.Bits.{is-true}
 use borrow.Author.Tests.{le-leb, leb-true, leb-false}
 use Rattle.number.specs.Exact.{zeroᶠ}
-use Rattle.signs.specs.Signs.{signBit}
+use Rattle.number.specs.Signs.{signBit}
 use Rattle.number.proofs.OrderLaws.{le-not-below, le-through, not-below, below-le, level-le, below-through, above-sign, under-sign}
 use Rattle.sorts.specs.Keys.{totalLess, precedesBy, precedes, ahead}
 

@@ -5,7 +5,7 @@ use Prim.Native.Nat.{ℕ}
 use lib.Dec.{leb}
 use lib.ListN.{getD}
 use lib.Ieee.{Float, nan, lt, eq, isNan}
-use Rattle.signs.specs.Signs.{signBit}
+use Rattle.number.specs.Signs.{signBit}
 
 -- x comes before y, as the Rust's `total_cmp` has it: it is less, or the two are equal and it alone has the sign, or y alone is NaN
 unfoldable pub totalLess : Float → Float → Bool

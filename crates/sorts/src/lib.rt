@@ -18,8 +18,8 @@ pub fn key(keys: &[f64], i: u32) -> f64
 fn total_less(x: f64, y: f64) -> bool
     ensures { λ r. ⌜ r ≡ totalLess x y ⌝ }
 {
-    let level = (x == y) & (signs::sign_bit(x) & !signs::sign_bit(y));
-    (x < y) | (level | (!signs::is_nan(x) & signs::is_nan(y)))
+    let level = (x == y) & (number::signs::sign_bit(x) & !number::signs::sign_bit(y));
+    (x < y) | (level | (!number::signs::is_nan(x) & number::signs::is_nan(y)))
 }
 
 // Whether a goes before b, or is b, where neither key is below the other.

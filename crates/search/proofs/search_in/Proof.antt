@@ -5,8 +5,8 @@ use native.Mathlib.Omega.{arith}
 use lib.ListN.{length}
 use lib.Ieee.{div, ofBits}
 use Rattle.boundary.proofs.KnownLaws.{owned-point}
-use Rattle.heap.specs.Heap.{entryAt, totalWeight}
-use Rattle.heap.proofs.HeapLaws.{heaped-none}
+use Rattle.search.specs.Heap.{entryAt, totalWeight}
+use Rattle.search.proofs.HeapLaws.{heaped-none}
 use Rattle.index.specs.Buffer.{buffer}
 use Rattle.set.specs.Set.{outlinesOf}
 use Rattle.set.proofs.SetLaws.{outlines-length}

@@ -5,7 +5,7 @@ use mathlib.Core.Bool.{true, false}
 use borrow.Author.Needs.{needs}
 use lib.Ieee.{Float, binary64, ofBits, add, sub, mul, div, lt, eq}
 use Rattle.number.specs.Exact.{zeroᶠ, one}
-use Rattle.signs.specs.Signs.{clampOf}
+use Rattle.number.specs.Signs.{clampOf}
 use Rattle.boundary.specs.declared.Point.{Point}
 use Rattle.boundary.specs.declared.Edge.{Edge}
 use Rattle.boundary.specs.Line.{wayOf, squaresOf, paramOf, alongOf, aheadOf, footOf}

@@ -1,4 +1,0 @@
--- Laws of pieces.
-
--- What the halving loop cites.
-pub mod HalveLaws
