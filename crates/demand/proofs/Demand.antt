@@ -24,7 +24,7 @@ use Rattle.index.specs.Buffer.{IndexBuffer, shortBuffer}
 use Rattle.set.specs.Set.{Outline, outlinesOf, outlineIn}
 use Rattle.set.specs.Tests.{setTested, setQueryTested}
 use Rattle.set.specs.Answers.{queryOutcome}
-use Rattle.set.proofs.SetLaws.{outlines-length}
+use Rattle.set.proofs.SetLaws.{outlines-length, outline-passes}
 use Rattle.search.specs.Least.{magnitudeOf, magnitudeAt, leastIn}
 use Rattle.search.proofs.LeastLaws.{least-of}
 use Rattle.nearest.specs.declared.Nearest.the-variants.{At}
@@ -36,8 +36,9 @@ use Rattle.grid.specs.Whole.{PointZ}
 use Rattle.exact.specs.Grid.{PointOn}
 use Rattle.exact.proofs.OneOutline.{grid-exact}
 use Rattle.exact.proofs.Tests.{grid-in-field}
-use Rattle.demand.specs.Demand.{OutlineExact, Demand3}
-use Rattle.demand.proofs.OutlineLaws.{outline-passes, outline-on}
+use Rattle.exact.specs.OneOutline.{OutlineExact}
+use Rattle.demand.specs.Demand.{Demand3}
+use Rattle.demand.proofs.OutlineLaws.{outline-on}
 
 module _ (v : List Float) (cs : List ℕ) (passed : setTested v cs ≡ Passed) (some : 0 < length cs) (grid : OutlineOn v) {p : Point} {q : PointZ} (on : PointOn p q) where
   abbrev os : List Outline
@@ -46,40 +47,27 @@ module _ (v : List Float) (cs : List ℕ) (passed : setTested v cs ≡ Passed) (
   outlines-some : 0 < length os
   outlines-some = let n = outlines-length v cs in omega arith
 
+  outline-exact : (k : ℕ) → k < length os → OutlineExact (outlineIn os k) p q
+  outline-exact k l = grid-exact (outline-on v cs grid k) (outline-passes v cs passed k l) on
+
   -- the distance that the call answers is the one whose magnitude is taken
-  magnitude-is : (k : ℕ) → k < length os → (d : Distance) → distanceAnswer (outlineIn os k) p ≡ DistanceWith d → magnitudeAt os p k ≡ absOf (d .d)
+  magnitude-is : (k : ℕ) (l : k < length os) → magnitudeAt os p k ≡ absOf (outline-exact k l .distance .d)
   unfolding magnitudeOf distanceAnswer queryTested given _refusing_when_
-  magnitude-is k l d e =
+  magnitude-is k l =
       let o = outlineIn os k in
+      let e = outline-exact k l in
       let s = signedOf (nearestOf (edges o) p) p (containsOf (edges o) p) in
       let f : distanceAnswer o p ≡ DistanceWith s = rw (outline-passes v cs passed k l, grid-in-field (on .x), grid-in-field (on .y)) in
-      let g : DistanceWith s ≡ DistanceWith d = sym f ∙ e in
-      let h : s ≡ d = cc in
+      let g : DistanceWith s ≡ DistanceWith (e .distance) = sym f ∙ e .distance-answer in
+      let h : s ≡ e .distance = cc in
       ap (λ (x : Distance). absOf (x .d)) h
-
-  outline-exact : (k : ℕ) → k < length os → OutlineExact (outlineIn os k) p q (magnitudeAt os p k)
-  outline-exact k l =
-      let g = grid-exact (outline-on v cs grid k) (outline-passes v cs passed k l) in
-      let d = g .distance on in
-      record {
-        whole = g .whole;
-        on = g .on;
-        area = _;
-        area-answer = g .area-answer;
-        area-exact = g .area;
-        location = g .location-answer on;
-        distance = d .signed;
-        distance-answer = d .answer;
-        distance-near = d .near;
-        magnitude-is = magnitude-is k l (d .signed) (d .answer);
-      }
 
   -- a magnitude is a number
   number : (k : ℕ) → k < length os → T (not (isNan (magnitudeAt os p k)))
   number k l =
       let e = outline-exact k l in
       let m = absOf (e .distance .d) in
-      rw (e .magnitude-is) (left-not-nan m (inf false) (below-le m (inf false) (below-infinity (abs-is (e .distance-near .is)))))
+      rw (magnitude-is k l) (left-not-nan m (inf false) (below-le m (inf false) (below-infinity (abs-is (e .distance-near .is)))))
 
   -- the query passes the tests
   answered : (B : IndexBuffer) → shortBuffer B ≡ false → nearestOutcome v cs p B .answer ≡ At (leastIn os p)
@@ -91,5 +79,6 @@ module _ (v : List Float) (cs : List ℕ) (passed : setTested v cs ≡ Passed) (
       let best = leastIn os p in
       record {
         outlines = outline-exact;
+        magnitudes = magnitude-is;
         nearest = record { best = best; answer = answered; is = least-is os p best (least-of (magnitudeAt os p) (length os) outlines-some number) };
       }

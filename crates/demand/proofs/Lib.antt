@@ -2,5 +2,5 @@
 
 -- The theorem: `demand-3`.
 pub mod Demand
--- An outline of a set that passes the tests passes its own.
+-- Where a set is on the grid, its outlines are.
 pub mod OutlineLaws

@@ -15,7 +15,7 @@ use Rattle.algebra.specs.Quote.{quote}
 use Rattle.algebra.specs.Order.{_≦_, _≺_, absℤ, natAbs-neg, nonneg-nat, ≤ℤ-of-eq, ≤ℤ-trans, ≤ℤ-antisym, ≤ℤ-or-<ℤ, <ℤ→≤ℤ, mul-pos}
 use Rattle.algebra.specs.Lin as L
 use Rattle.algebra.specs.Lin.{le-from, lt-from, eq-from, false-from}
-use Rattle.algebra.specs.Mono.{mul-mono, sq-mono}
+use Rattle.algebra.specs.Mono.{mul-mono, mul-cancel, sq-mono}
 use Rattle.number.specs.Exact.{Is, zeroᶠ}
 use Rattle.number.proofs.Values.{below-infinity}
 use Rattle.number.proofs.Operations.{zero-is, neg-is}
@@ -33,12 +33,15 @@ use Rattle.accept.specs.Refusals.{samePoint}
 use Rattle.grid.specs.Whole.{PointZ, EdgeZ, onEdgeZ, boundaryZ, insideZ, locationZ}
 use Rattle.exact.specs.Grid.{PointOn, EdgeOn, EdgesOn}
 use Rattle.lists.specs.Lists.Each.{none, more}
-use Rattle.grid.specs.Distance.{lengthZ, numZ, denZ}
-use Rattle.exact.specs.Distance.{tolerance, AtMost, AtLeast, Near24, NearLeast, SignedNear}
+use Rattle.grid.specs.Distance.{lengthZ, numZ, denZ, NoneNearer, LeastDistance}
+use Rattle.exact.specs.Distance.{step, tolerance, AtMost, AtLeast, Near24, SignedNear}
 use Rattle.lists.proofs.FoldLaws.{every-fails}
+use Rattle.lists.proofs.MemberLaws.{same-length}
 use Rattle.lists.specs.Lists.Some.{here, there}
 use Rattle.exact.proofs.Location.{contains-exact}
 use Rattle.grid.proofs.Apart.{zero-squares, off-edge-apart}
+use Rattle.grid.proofs.LeastDistance.{den-above, least-distance}
+use Rattle.grid.proofs.NearestEdge.{NotAbove, not-above-least, Exactly, exact-above, exact-distance}
 use Rattle.exact.proofs.EdgeDistance.{den-nonneg, den-small, edge-near}
 
 -- ---- edges with different ends have a length
@@ -73,6 +76,40 @@ too-near s num den s0 n0 d1 h =
     let ss : pos 0 ≺ s *ℤ s = mul-pos s0 s0 in
     let one : pos 1 ≦ num = le-from (num ∷ []) (L.lt n0 ∷ []) (search quote depth 30) (omega arith) in
     false-from (s ∷ num ∷ den ∷ []) (L.le h ∷ L.le (mul-mono (s *ℤ s) (<ℤ→≤ℤ ss) one) ∷ L.le (mul-mono (s *ℤ s) (<ℤ→≤ℤ ss) d1) ∷ L.lt ss ∷ []) (search quote depth 30) (omega arith)
+
+-- ---- near the exact distance
+-- u units are near the least of the edges' distances: from no edge is the point less than u - 2 ^ -24 away, and from one at most u + 2 ^ -24
+record NearLeast (fs : List EdgeZ) (q : PointZ) (u : ℤ) : Type 0 where
+  least : Every (λ f. AtLeast u (numZ f q) (denZ f q)) fs
+  most : Some (λ f. AtMost u (numZ f q) (denZ f q)) fs
+
+module _ {u a b c d : ℤ} (b0 : pos 0 ≺ b) (d0 : pos 0 ≺ d) where
+  -- what is at most u, and 2 ^ -24 of a step, is so of a lesser fraction
+  less-at-most : NotAbove a b c d → AtMost u c d → AtMost u a b
+  less-at-most h k = record { holds = go (step *ℤ step) ((u +ℤ tolerance) *ℤ (u +ℤ tolerance)) (record { le = tt }) (k .holds) }
+    where
+      go : (s K : ℤ) → pos 0 ≦ s → c *ℤ s ≦ K *ℤ d → a *ℤ s ≦ K *ℤ b
+      go s K s0 k = mul-cancel d (a *ℤ s) (K *ℤ b) d0
+          (le-from (a ∷ b ∷ c ∷ d ∷ s ∷ K ∷ []) (L.le (mul-mono b (<ℤ→≤ℤ b0) k) ∷ L.le (mul-mono s s0 (h .holds)) ∷ []) (search quote depth 30) (omega arith))
+
+  -- and what is at least that, of a greater one
+  more-at-least : NotAbove c d a b → AtLeast u c d → AtLeast u a b
+  more-at-least h k = record { holds = λ l. go (step *ℤ step) ((u -ℤ tolerance) *ℤ (u -ℤ tolerance)) (record { le = tt }) (k .holds l) }
+    where
+      go : (s K : ℤ) → pos 0 ≦ s → K *ℤ d ≦ c *ℤ s → K *ℤ b ≦ a *ℤ s
+      go s K s0 k = mul-cancel d (K *ℤ b) (a *ℤ s) d0
+          (le-from (a ∷ b ∷ c ∷ d ∷ s ∷ K ∷ []) (L.le (mul-mono b (<ℤ→≤ℤ b0) k) ∷ L.le (mul-mono s s0 (h .holds)) ∷ []) (search quote depth 30) (omega arith))
+
+module _ (q : PointZ) {u num den : ℤ} (d0 : pos 0 ≺ den) where
+  near-above : {fs : List EdgeZ} → Long fs → Every (λ f. NoneNearer f q num den) fs → Some (λ f. AtMost u (numZ f q) (denZ f q)) fs → AtMost u num den
+  unfolding Every
+  near-above (l, ls) (h, hs) (here {x = f} m) = less-at-most d0 (den-above f q l) (not-above-least h (least-distance f q l)) m
+  near-above (l, ls) (h, hs) (there m) = near-above ls hs m
+
+  near-below : {fs : List EdgeZ} → Long fs → Every (λ f. AtLeast u (numZ f q) (denZ f q)) fs → Some (λ f. LeastDistance f q num den) fs → AtLeast u num den
+  unfolding Every
+  near-below (l, ls) (h, hs) (here {x = f} m) = more-at-least d0 (den-above f q l) (not-above-least (least-distance f q l .none-nearer) m) h
+  near-below (l, ls) (h, hs) (there m) = near-below ls hs m
 
 -- d is u units, near the least distance
 record Magnitude (fs : List EdgeZ) (q : PointZ) (d : Float) : Type 0 where
@@ -168,13 +205,20 @@ unfolding locationZ boundaryZ
 distance-near {es} {fs} {p} {q} r P some apart = record {
   z = cond (containsOf es p) (negℤ (m .u)) (m .u);
   is = signed-is (nearestOf es p) p (containsOf es p) (m .is) (m .plus);
-  magnitude = subst (NearLeast fs q) (sym (size (containsOf es p))) (m .near);
+  num = e .num;
+  den = e .den;
+  exact = e .exact;
+  above = rw (size (containsOf es p)) (near-above q (exact-above (e .exact)) long (e .exact .least) (m .near .most));
+  below = rw (size (containsOf es p)) (near-below q (exact-above (e .exact)) long (m .near .least) (e .exact .of-an-edge));
   inside = λ h. let s = sided true h in rw (s .1) (minus (s .0));
   outside = λ h. let s = sided false h in rw (s .1) (s .0);
 }
   where
     long : Long fs
     long = lengths-above r (every-fails (λ e. samePoint (e .a) (e .b)) es apart)
+
+    e : Exactly fs q
+    e = exact-distance q long (rw (same-length r) at some)
 
     m : Magnitude fs q (nearestOf es p .d)
     m = nearest-near P r long some
@@ -190,4 +234,4 @@ distance-near {es} {fs} {p} {q} r P some apart = record {
     off-zero h = ⊎-elim (λ (l : m .u ≦ pos 0). absurd (none-at-zero P r long (every-fails (onEdgeZ q) fs h) (subst (λ (u : ℤ). Some (λ f. AtMost u (numZ f q) (denZ f q)) fs) (≤ℤ-antisym l (m .plus)) (m .near .most)))) (λ l. l) (≤ℤ-or-<ℤ (m .u) (pos 0))
 
     sided : (s : Bool) → locationZ fs q ≡ cond s 2 0 → (pos 0 ≺ m .u) × (containsOf es p ≡ s)
-    sided s h = let t = located (boundaryZ fs q) (insideZ fs q) s h in (off-zero (t .0), contains-exact r P (t .0) ∙ t .1)
+    sided s h = let t = located (boundaryZ fs q) (insideZ fs q) s h in (off-zero (t .0), contains-exact r P ∙ t .1)

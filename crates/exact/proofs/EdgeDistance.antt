@@ -32,7 +32,7 @@ use Rattle.grid.specs.Distance.{Region, regionOf, dotZ, lengthZ, denOf, numZ, d
 use Rattle.exact.specs.Distance.{step, tolerance, Near24}
 use Rattle.grid.specs.Distance.Region.{beforeStart, beside, pastEnd}
 use Rattle.exact.proofs.OneEdge.{difference, product}
-use Rattle.grid.proofs.LeastDistance.{reach-square}
+use Rattle.grid.proofs.LeastDistance.{reach-square, den-above}
 use Rattle.grid.proofs.Regions.{in-region, reach}
 use Rattle.exact.proofs.Parameter.{U, E, U0, E0, one-is, Param, clamped}
 use Rattle.exact.proofs.Chain as C
@@ -103,13 +103,7 @@ module _ (num den w1 w2 s l K : ℤ) (l0 : pos 0 ≺ l) (d0 : pos 0 ≦ den) (sa
 
 -- ---- the denominator
 pub den-nonneg : (f : EdgeZ) (q : PointZ) → pos 0 ≺ lengthZ f → pos 0 ≦ denZ f q
-unfolding denZ
-den-nonneg f q L0 = go (regionOf f q)
-  where
-    go : (s : Region) → pos 0 ≦ denOf s f
-    go beforeStart = record { le = tt }
-    go beside = <ℤ→≤ℤ L0
-    go pastEnd = record { le = tt }
+den-nonneg f q L0 = <ℤ→≤ℤ (den-above f q L0)
 
 -- ---- the edge
 module _ {e : Edge} {f : EdgeZ} {p : Point} {q : PointZ} (G : EdgeOn e f) (P : PointOn p q) (L0 : pos 0 ≺ lengthZ f) where

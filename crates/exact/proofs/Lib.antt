@@ -1,13 +1,13 @@
 -- The laws of outlines on the grid.
 
 -- ---- the theorems
--- An outline that the tests accept: `grid-exact`.
+-- An outline that the tests accept, and a point: `grid-exact`.
 pub mod OneOutline
 -- Making an outline: `made-accepted`.
 pub mod Making
 -- The area of any edges: `area-exact`.
 pub mod Area
--- The location of a point among any edges: `location-exact`, `contains-exact`.
+-- Containment and location of a point among any edges: `contains-exact`, `location-exact`.
 pub mod Location
 -- Whole edges for an outline on the grid: `edges-on`.
 pub mod WholeEdges
@@ -32,5 +32,5 @@ pub mod Loop
 pub mod Turned
 -- Vertices and their numbers.
 pub mod Numbers
--- What the tests say of an outline that passes them.
+-- The tests of a number of the grid.
 pub mod Tests

@@ -1,4 +1,4 @@
--- Demand 3 of one outline that the tests accept. Assumes nothing.
+-- Demand 3 of one outline that the tests accept and one point, on the grid. Assumes nothing.
 use mathlib.Core.Path.{_≡_}
 use mathlib.Core.Bool.{false}
 use mathlib.Core.List.{List}
@@ -8,16 +8,20 @@ use borrow.Author.Tests.{ltb-false}
 use lib.Dec.{ltb}
 use lib.ListN.{length}
 use lib.Ieee.{Float}
+use Rattle.boundary.specs.declared.Point.{Point}
 use Rattle.boundary.specs.Outline.{count, edgeAt, edges}
 use Rattle.distance.specs.Nearest.{nearestOf, signedOf}
 use Rattle.accept.specs.declared.Test.the-variants.{Passed}
+use Rattle.accept.specs.Area.{areaOf}
 use Rattle.geometry.specs.Polygon.{containsOf}
 use Rattle.accept.specs.Refusals.{_refusing_when_, given, outlineTested}
-use Rattle.geometry.specs.Answers.{queryTested, areaAnswer, locateAnswer, distanceAnswer}
+use Rattle.geometry.specs.Answers.{queryTested, areaAnswer, locateAnswer, containsAnswer, distanceAnswer}
 use Rattle.grid.specs.Grid.{OutlineOn}
-use Rattle.exact.specs.OneOutline.{GridExact}
+use Rattle.grid.specs.Whole.{PointZ}
+use Rattle.exact.specs.Grid.{PointOn}
+use Rattle.exact.specs.OneOutline.{OutlineExact}
 use Rattle.exact.proofs.Area.{area-exact}
-use Rattle.exact.proofs.Location.{location-exact}
+use Rattle.exact.proofs.Location.{location-exact, contains-exact}
 use Rattle.exact.proofs.Distance.{distance-near}
 use Rattle.lists.proofs.RunLaws.{length-run}
 use Rattle.exact.proofs.WholeEdges.{edges-on}
@@ -32,17 +36,20 @@ some-edges : (v : List Float) → ltb (count v) 3 ≡ false → 0 < length (edge
 unfolding edges
 some-edges v h = rw (length-run (edgeAt v) 0 (count v)) (let l = ltb-false (count v) 3 h in omega arith)
 
-pub grid-exact : {v : List Float} → OutlineOn v → outlineTested v ≡ Passed → GridExact v
-unfolding areaAnswer queryTested locateAnswer distanceAnswer given _refusing_when_
-grid-exact {v} g e =
-    let s = shape v (outline-shape-passed v e) in
+pub grid-exact : {o : List Float} {p : Point} {q : PointZ} → OutlineOn o → outlineTested o ≡ Passed → PointOn p q → OutlineExact o p q
+unfolding areaAnswer queryTested locateAnswer containsAnswer distanceAnswer given _refusing_when_
+grid-exact {o} {p} g e P =
+    let s = shape o (outline-shape-passed o e) in
     let w = edges-on g in
     record {
       whole = w .0;
       on = w .1;
-      area = area-exact (w .1) (few-edges v (s .few));
+      area = areaOf (edges o);
       area-answer = rw e;
-      location = λ P. location-exact (w .1) P;
-      location-answer = λ P. rw (e, grid-in-field (P .x), grid-in-field (P .y), location-exact (w .1) P);
-      distance = λ {p} P. record { signed = signedOf (nearestOf (edges v) p) p (containsOf (edges v) p); answer = rw (e, grid-in-field (P .x), grid-in-field (P .y)); near = distance-near (w .1) P (some-edges v (s .enough)) (s .apart) };
+      area-exact = area-exact (w .1) (few-edges o (s .few));
+      location = rw (e, grid-in-field (P .x), grid-in-field (P .y), location-exact (w .1) P);
+      containment = rw (e, grid-in-field (P .x), grid-in-field (P .y), contains-exact (w .1) P);
+      distance = signedOf (nearestOf (edges o) p) p (containsOf (edges o) p);
+      distance-answer = rw (e, grid-in-field (P .x), grid-in-field (P .y));
+      distance-near = distance-near (w .1) P (some-edges o (s .enough)) (s .apart);
     }

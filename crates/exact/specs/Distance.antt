@@ -5,10 +5,9 @@ use Prim.Native.Nat.{_^_}
 use lib.IntN.{ℤ, pos, _+ℤ_, _-ℤ_, _*ℤ_}
 use lib.Ieee.{Float}
 use Rattle.algebra.specs.Order.{_≦_, _≺_, absℤ}
-use Rattle.lists.specs.Lists.{Every, Some}
 use Rattle.number.specs.Exact.{Is}
 use Rattle.grid.specs.Whole.{PointZ, EdgeZ, locationZ}
-use Rattle.grid.specs.Distance.{numZ, denZ}
+use Rattle.grid.specs.Distance.{ExactDistance}
 
 -- ---- within 2 ^ -24 of a step
 -- a step, 2 ^ -10 µm, and 2 ^ -24 of a step, in units of 2 ^ -1074 µm
@@ -34,16 +33,16 @@ pub record Near24 (d : Float) (num den : ℤ) : Type 0 where
   pub above : AtMost u num den
   pub below : AtLeast u num den
 
--- ---- all edges
--- u units are within 2 ^ -24 of a step of the exact distance: from no edge is the point less than u - 2 ^ -24 away, and from one at most u + 2 ^ -24
-pub record NearLeast (fs : List EdgeZ) (q : PointZ) (u : ℤ) : Type 0 where
-  pub least : Every (λ f. AtLeast u (numZ f q) (denZ f q)) fs
-  pub most : Some (λ f. AtMost u (numZ f q) (denZ f q)) fs
-
--- the signed distance d: its magnitude is near the exact distance, and it is negative at inside points and positive at outside ones
+-- ---- an outline's distance
+-- The signed distance d of q from the edges fs: its magnitude is within 2 ^ -24 of a step of the exact distance, which is √(num / den) steps;
+-- it is negative at inside points and positive at outside ones
 pub record SignedNear (fs : List EdgeZ) (q : PointZ) (d : Float) : Type 0 where
   pub z : ℤ
   pub is : Is 1074 d z
-  pub magnitude : NearLeast fs q (absℤ z)
+  pub num : ℤ
+  pub den : ℤ
+  pub exact : ExactDistance fs q num den
+  pub above : AtMost (absℤ z) num den
+  pub below : AtLeast (absℤ z) num den
   pub inside : locationZ fs q ≡ 2 → z ≺ pos 0
   pub outside : locationZ fs q ≡ 0 → pos 0 ≺ z

@@ -1,4 +1,4 @@
--- What document 01 says by example.
+-- What document 01 says by example. Definitions only.
 
 -- Its starred examples.
 pub mod Examples

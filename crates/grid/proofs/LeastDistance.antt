@@ -1,4 +1,4 @@
--- `numZ` / `denZ` is the squared distance to the nearest point of the closed edge. Assumes nothing.
+-- `numZ` / `denZ` is the squared distance to the nearest point of the closed edge, where it has a length. Assumes nothing.
 use mathlib.Core.Path.{_≡_, sym}
 use mathlib.Core.List.{List, [], _∷_}
 use native.Mathlib.Omega.{arith}
@@ -48,5 +48,21 @@ module _ (f : EdgeZ) (q : PointZ) where
       go pastEnd h = le-by-rest (pos 2 *ℤ ((n -ℤ m) *ℤ n *ℤ (dot -ℤ l2)) +ℤ (n -ℤ m) *ℤ (n -ℤ m) *ℤ l2)
           (twice (mul-nonneg (mul-nonneg (sub-nonneg (t .high)) (<ℤ→≤ℤ (t .above))) (sub-nonneg (h .1))) (mul-nonneg (sq-nonneg (n -ℤ m)) length-nonneg)) (ring (m ∷ n ∷ σ) (search quote depth 30) tt)
 
+  pub den-above : pos 0 ≺ lengthZ f → pos 0 ≺ denZ f q
+  unfolding denZ
+  den-above L0 = go (regionOf f q)
+    where
+      go : (s : Region) → pos 0 ≺ denOf s f
+      go beforeStart = record { lt = tt }
+      go beside = L0
+      go pastEnd = record { lt = tt }
+
   pub least-distance : pos 0 ≺ lengthZ f → LeastDistance f q (numZ f q) (denZ f q)
-  least-distance L0 = record { none-nearer = no-nearer; m = reach (regionOf f q) dot l2; n = l2; ratio = reach-ratio dot l2 L0 (regionOf f q) (in-region dot l2); as-near = sym reach-square }
+  least-distance L0 = record {
+    above = den-above L0;
+    none-nearer = record { holds = no-nearer };
+    m = reach (regionOf f q) dot l2;
+    n = l2;
+    ratio = reach-ratio dot l2 L0 (regionOf f q) (in-region dot l2);
+    as-near = sym reach-square;
+  }

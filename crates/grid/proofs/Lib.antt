@@ -1,7 +1,9 @@
 -- The laws of whole-number geometry and of the grid.
 
--- The exact distance is to the nearest point of the edge: `least-distance`.
+-- Of one edge, `numZ` / `denZ` is the squared distance to its nearest point: `least-distance`.
 pub mod LeastDistance
+-- Edges with a length have one exact distance: `exact-distance`, `exact-unique`.
+pub mod NearestEdge
 -- A point off an edge is apart from it.
 pub mod Apart
 -- Where a point stands along an edge.

@@ -1,4 +1,4 @@
--- Points at the height of an edge: one that is on its line is on the edge. Assumes nothing.
+-- Points at the height of an edge, and points on its line: one in the box of its ends is on the edge. Assumes nothing.
 use mathlib.Core.Path.{_≡_, refl, ap₂}
 use mathlib.Core.List.{[], _∷_}
 use mathlib.Core.Bool.{Bool, true, false, _&&_}
@@ -10,7 +10,7 @@ use lib.Ieee.{unlike}
 use lib.Ieee.Fits.{and-i}
 use Rattle.algebra.specs.Quote.{quote}
 use Rattle.algebra.specs.Order.{_≦_, _≺_, <ℤ→≤ℤ, mul-le, mul-pos, sq-nonneg}
-use Rattle.algebra.specs.Lin.{le, lt, eq, le-from, lt-from, eq-from}
+use Rattle.algebra.specs.Lin.{le, lt, eq, le-from, lt-from}
 use Rattle.algebra.specs.Mono.{mul-cancel}
 use Rattle.number.specs.Exact.{eqZ}
 use Rattle.number.proofs.Compare.{→eqZ, is-lt, not-lt}
@@ -54,13 +54,3 @@ unfolding onEdgeZ
 on-edge e p flat h k =
     and-i (eqZ (crossZ e p) (pos 0)) (betweenZ (e .a .x) (e .b .x) (p .x) && betweenZ (e .a .y) (e .b .y) (p .y)) (→eqZ flat)
     (and-i (betweenZ (e .a .x) (e .b .x) (p .x)) (betweenZ (e .a .y) (e .b .y) (p .y)) (product-between (e .a .x) (e .b .x) (p .x) h) (product-between (e .a .y) (e .b .y) (p .y) k))
-
--- a height between the ends' heights is enough
-pub on-line : (e : EdgeZ) (p : PointZ) → Across (e .a .y) (e .b .y) (p .y) → crossZ e p ≡ pos 0 → T (onEdgeZ p e)
-unfolding crossZ
-on-line e p h flat =
-    let ρ = e .a .x ∷ e .a .y ∷ e .b .x ∷ e .b .y ∷ p .x ∷ p .y ∷ [] in
-    on-edge e p flat
-    (product-scaled (p .x -ℤ e .a .x) (p .x -ℤ e .b .x) (e .a .y -ℤ e .b .y) (e .a .x -ℤ e .b .x) (p .y -ℤ e .a .y) (p .y -ℤ e .b .y) (h .square)
-    (eq-from ρ (eq flat ∷ []) (search quote depth 30) (omega arith)) (eq-from ρ (eq flat ∷ []) (search quote depth 30) (omega arith)) (h .product))
-    (h .product)

@@ -1,4 +1,4 @@
--- The outlines that two lists are, what a set that passes the tests has, and that the boxes of its outlines pass the tests of boxes. Assumes nothing.
+-- The outlines that two lists are, what a set that passes the tests has, that its outlines pass the tests of an outline, and their boxes those of boxes. Assumes nothing.
 use mathlib.Core.Path.{_≡_, refl, sym, ap, subst, _∙_}
 use mathlib.Core.Bool.{Bool, true, false, not}
 use mathlib.Core.List.{List, [], flatMap}
@@ -18,8 +18,8 @@ use Rattle.boundary.specs.Outline.{count}
 use Rattle.lists.proofs.FoldLaws.{any-at, or-none, none-of}
 use Rattle.accept.specs.declared.Test.{Test}
 use Rattle.accept.specs.declared.Test.the-variants.{Passed}
-use Rattle.accept.specs.Refusals.{notFinite, outsideField, equalNeighbours, zeroArea, negativeArea}
-use Rattle.accept.proofs.TestLaws.{refusing-passed}
+use Rattle.accept.specs.Refusals.{notFinite, outsideField, equalNeighbours, zeroArea, negativeArea, outlineTested}
+use Rattle.accept.proofs.TestLaws.{Shape, tested, refusing-passed}
 use Rattle.boxes.specs.BoxLists.{boxCount, boxAt, boxNumbers, boxesOf}
 use Rattle.boundary.specs.Boxes.{boxFits}
 use Rattle.index.specs.Answers.{boxesTested}
@@ -187,6 +187,41 @@ module _ (v : List Float) (cs : List ℕ) where
       let f = passed-fit v cs e in
       let s = f .size in
       record { size = omega arith; some = λ k l. rw (outline-is v cs k) (outline-some v cs f k (omega arith)); in-field = passing v cs e .in-field }
+
+-- ---- an outline of an accepted set passes the tests of an outline
+module _ (v : List Float) (cs : List ℕ) (passed : setTested v cs ≡ Passed) (k : ℕ) (l : k < length (outlinesOf v cs)) where
+  abbrev o : Outline
+  o = outlineIn (outlinesOf v cs) k
+
+  -- what no outline fails this one does not
+  not-failed : (P : Outline → Bool) → any P (outlinesOf v cs) ≡ false → P o ≡ false
+  not-failed P h = any-at P [] (outlinesOf v cs) k l h
+
+  -- its count is even, and from 3 to 4,096 vertices
+  counted : (length o ≡ 2 * getD cs k 0) × (3 ≤ getD cs k 0) × (getD cs k 0 ≤ 4096)
+  counted =
+      let n = outlines-length v cs in
+      let fit = passed-fit v cs passed in
+      let m : k < length cs = omega arith in
+      (ap length (outline-is v cs k) ∙ outline-length v cs fit k m, fit .least k m, fit .most k m)
+
+  pub outline-passes : outlineTested (outlineIn (outlinesOf v cs) k) ≡ Passed
+  unfolding outlineTested
+  outline-passes =
+      let t = passing v cs passed in
+      let n = counted .0 in
+      let three = counted .1 in
+      let most = counted .2 in
+      let s : Shape o = record {
+        even = ne-eqb (length o % 2) 1 (λ e. omega arith);
+        enough = le-ltb (count o) 3 (omega arith);
+        few = le-ltb 4096 (count o) (omega arith);
+        all-finite = not-failed notFinite (t .finite);
+        all-in-field = not-failed outsideField (t .in-field);
+        apart = not-failed equalNeighbours (t .apart);
+        nonzero = not-failed zeroArea (t .nonzero);
+      } in
+      rw (tested s, not-failed negativeArea (t .positive))
 
 -- ---- the boxes of a set
 flat-of : {A B : Type 0} (f : B → List A) (h : ℕ → B) (i n : ℕ) {C : Type 0} (g : ℕ → C) (b : C → B) → ((j : ℕ) → b (g j) ≡ h j) → flatMap (λ c. f (b c)) (run g i n) ≡ flatMap f (run h i n)
