@@ -1,10 +1,11 @@
--- The box around two boxes is around both of them, and is in every box that is around both. Assumes nothing.
+-- The box around two boxes is around both of them, and is in every box that is around both; boxes that are each around the other are the same but for the signs of zeros. Assumes nothing.
 use mathlib.Core.Bool.{true, false, not}
 use lib.Dec.{T}
-use lib.Ieee.{Float, nan, inf, fin, lt, le, isNan}
-use Rattle.number.proofs.OrderLaws.{le-self, le-through}
+use lib.Ieee.{Float, nan, inf, fin, binary64, lt, le, eq, isNan, fits}
+use Rattle.number.specs.Exact.{Held}
+use Rattle.number.proofs.OrderLaws.{le-self, le-through, le-level, level-both, finite-between}
 use Rattle.boundary.specs.declared.Bounds.{Bounds}
-use Rattle.boundary.specs.Boxes.{BoxOf, Around, hull, emptyBox}
+use Rattle.boundary.specs.Boxes.{BoxOf, FiniteBox, DoubleBox, Around, SameBox, hull, emptyBox}
 use Rattle.number.proofs.Basics.{one-of}
 use Rattle.boundary.proofs.AlongLaws.{ends-between}
 
@@ -27,6 +28,46 @@ around-through a b c p q = record {
   top = le-through (c .max .y) (b .max .y) (a .max .y) (q .top) (p .top);
 }
 
+-- ---- boxes that are the same but for the signs of zeros: each is around the other
+pub around-same : (a b : Bounds) → Around a b → Around b a → SameBox a b
+around-same a b p q = record {
+  left = le-level (a .min .x) (b .min .x) (p .left) (q .left);
+  bottom = le-level (a .min .y) (b .min .y) (p .bottom) (q .bottom);
+  right = le-level (a .max .x) (b .max .x) (q .right) (p .right);
+  top = le-level (a .max .y) (b .max .y) (q .top) (p .top);
+}
+
+pub same-around : (a b : Bounds) → SameBox a b → Around a b × Around b a
+same-around a b s =
+    let left = level-both (a .min .x) (b .min .x) (s .left) in
+    let bottom = level-both (a .min .y) (b .min .y) (s .bottom) in
+    let right = level-both (a .max .x) (b .max .x) (s .right) in
+    let top = level-both (a .max .y) (b .max .y) (s .top) in
+    (record { left = left .0; right = right .1; bottom = bottom .0; top = top .1 }, record { left = left .1; right = right .0; bottom = bottom .1; top = top .0 })
+
+pub same-self : (b : Bounds) → NumberBox b → SameBox b b
+same-self b B = let s = around-self b B in around-same b b s s
+
+pub same-back : (a b : Bounds) → SameBox a b → SameBox b a
+same-back a b s = let p = same-around a b s in around-same b a (p .1) (p .0)
+
+pub same-through : (a b c : Bounds) → SameBox a b → SameBox b c → SameBox a c
+same-through a b c s t =
+    let p = same-around a b s in
+    let q = same-around b c t in
+    around-same a c (around-through a b c (p .0) (q .0)) (around-through c b a (q .1) (p .1))
+
+-- a box of `f64`s is finite where one that is the same is
+pub same-finite : (a b : Bounds) → SameBox a b → FiniteBox b → DoubleBox a → FiniteBox a
+same-finite a b s B D = record {
+  min = record { x = held (s .left) (B .min .x) (D .min .x); y = held (s .bottom) (B .min .y) (D .min .y) };
+  max = record { x = held (s .right) (B .max .x) (D .max .x); y = held (s .top) (B .max .y) (D .max .y) };
+}
+  where
+    held : {x y : Float} → T (eq x y) → Held y → T (fits binary64 x) → Held x
+    held {x} {y} e h F = let l = level-both x y e in record { fits = F; finite = finite-between y x y (h .finite) (h .finite) (l .1) (l .0) }
+
+-- ---- the box around two boxes
 module _ (a b : Bounds) (A : NumberBox a) (B : NumberBox b) where
   pub hull-number : NumberBox (hull a b)
   unfolding hull
@@ -74,3 +115,7 @@ around-nowhere n N = record { left = most (n .min .x) (N .min .x); right = least
 pub nowhere-number : NumberBox emptyBox
 unfolding isNan
 nowhere-number = record { min = record { x = tt; y = tt }; max = record { x = tt; y = tt } }
+
+pub nowhere-double : DoubleBox emptyBox
+unfolding fits
+nowhere-double = record { min = record { x = tt; y = tt }; max = record { x = tt; y = tt } }

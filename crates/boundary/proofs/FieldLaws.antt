@@ -7,6 +7,7 @@ use lib.Dec.{T, lit≤}
 use lib.IntN.{ℤ, pos, negℤ, natAbs, _-ℤ_, _*ℤ_}
 use lib.Ieee.{Float, binary64, add, sub, neg, lt, le, isNan, fits}
 use lib.Ieee.Fits.{and-l, and-r, and-i, add-fits, sub-fits}
+use lib.Ieee.Scale.{finite}
 use Rattle.algebra.specs.Order.{Within, within-natAbs, natAbs-neg, natAbs-add, le-of-within}
 use Rattle.number.specs.Exact.{Is, Sized, Held}
 use Rattle.number.specs.Hypot.{Short}
@@ -14,15 +15,22 @@ use Rattle.number.specs.Signs.{absOf}
 use Rattle.number.proofs.Operations.{equation→is, neg-is, finite-is, is-held}
 use Rattle.number.proofs.RoundingLaws.{rounded-within}
 use Rattle.number.proofs.ExactLaws.{sub-result}
-use Rattle.number.proofs.OrderLaws.{is-order, order-is, finite-between}
-use Rattle.number.proofs.Values.{abs-is, abs-held, held-not-nan, rounded-natAbs, add-grown, is-short}
+use Rattle.number.proofs.OrderLaws.{is-order, order-is, right-not-nan, finite-between}
+use Rattle.number.proofs.Values.{abs-is, abs-held, rounded-natAbs, add-grown, is-short}
 use Rattle.boundary.specs.declared.Bounds.{Bounds}
-use Rattle.boundary.specs.Boxes.{limit, FieldValue, FieldBox, FiniteBox, widenedBy}
+use Rattle.boundary.specs.Boxes.{limit, inField, boxFits, BoxOf, DoubleBox, FieldValue, FieldBox, FiniteBox, widenedBy}
 
 -- ---- values of the field
 
+-- they are finite, and no NaN
+pub in-field-finite : (x : Float) → T (inField x) → T (finite x)
+in-field-finite x h = finite-between (neg limit) x limit (unfold neg in tt) tt (and-l (le (neg limit) x) (le x limit) h) (and-r (le (neg limit) x) (le x limit) h)
+
+pub in-field-number : (x : Float) → T (inField x) → T (not (isNan x))
+in-field-number x h = right-not-nan (neg limit) x (and-l (le (neg limit) x) (le x limit) h)
+
 pub field-held : {x : Float} → FieldValue x → Held x
-field-held {x} h = record { fits = h .fits; finite = finite-between (neg limit) x limit (unfold neg in tt) tt (and-l (le (neg limit) x) (le x limit) (h .in-field)) (and-r (le (neg limit) x) (le x limit) (h .in-field)) }
+field-held {x} h = record { fits = h .fits; finite = in-field-finite x (h .in-field) }
 
 limit-is : Is 1074 limit (pos (2 ^ 1094))
 limit-is = equation→is limit refl
@@ -44,8 +52,26 @@ field-is {x} h =
 pub field-box-finite : {b : Bounds} → FieldBox b → FiniteBox b
 field-box-finite B = record { min = record { x = field-held (B .min .x); y = field-held (B .min .y) }; max = record { x = field-held (B .max .x); y = field-held (B .max .y) } }
 
+-- the corners of a box that passes test 11 are in the field
+pub fits-in-field : (b : Bounds) → T (boxFits b) → BoxOf (λ x. T (inField x)) b
+unfolding boxFits
+fits-in-field b h =
+    let h₁ = and-r (inField (b .min .x)) _ h in
+    let h₂ = and-r (inField (b .min .y)) _ h₁ in
+    let h₃ = and-r (inField (b .max .x)) _ h₂ in record {
+      min = record { x = and-l (inField (b .min .x)) _ h; y = and-l (inField (b .min .y)) _ h₁ };
+      max = record { x = and-l (inField (b .max .x)) _ h₂; y = and-l (inField (b .max .y)) _ h₃ };
+    }
+
+-- and where they are `f64`s, it is a box of the field
+pub double-field : {b : Bounds} → DoubleBox b → BoxOf (λ x. T (inField x)) b → FieldBox b
+double-field D F = record {
+  min = record { x = record { fits = D .min .x; in-field = F .min .x }; y = record { fits = D .min .y; in-field = F .min .y } };
+  max = record { x = record { fits = D .max .x; in-field = F .max .x }; y = record { fits = D .max .y; in-field = F .max .y } };
+}
+
 pub field-not-nan : {x : Float} → FieldValue x → T (not (isNan x))
-field-not-nan h = held-not-nan (field-held h)
+field-not-nan {x} h = in-field-number x (h .in-field)
 
 -- at most 2 ^ 1094 units is in the field
 pub is-field : {x : Float} {z : ℤ} → Sized 1074 (2 ^ 1094) x z → T (fits binary64 x) → FieldValue x

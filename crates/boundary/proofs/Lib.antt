@@ -8,7 +8,9 @@ pub mod AlongLaws
 pub mod BoxLaws
 -- The gap of a box is at most the distance: `gap-around`.
 pub mod GapLaws
--- The box around two boxes.
+-- The box around two boxes, and boxes that are the same but for the signs of zeros.
 pub mod AroundLaws
+-- The box around two boxes by IEEE 754's minimum and maximum, as the Rust has it.
+pub mod MinMaxLaws
 -- What owning a point or an edge tells.
 pub mod KnownLaws

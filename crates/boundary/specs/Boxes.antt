@@ -2,10 +2,10 @@
 use mathlib.Core.Bool.{Bool, true, false, cond, _&&_}
 use lib.Dec.{T}
 use lib.IntN.{pos, negsuc}
-use lib.Ieee.{Float, fin, inf, binary64, add, sub, mul, neg, lt, le, fits}
+use lib.Ieee.{Float, fin, inf, binary64, add, sub, mul, neg, lt, le, eq, fits}
 use Rattle.number.specs.Exact.{Held, zeroᶠ, one}
 use Rattle.number.specs.Hypot.{hypotOf}
-use Rattle.number.specs.Signs.{absOf, maxOf}
+use Rattle.number.specs.Signs.{absOf, minOf, maxOf}
 use Rattle.boundary.specs.declared.Point.{Point}
 use Rattle.boundary.specs.declared.Edge.{Edge}
 use Rattle.boundary.specs.declared.Bounds.{Bounds}
@@ -85,6 +85,13 @@ pub record Around (n b : Bounds) : Type 0 where
   pub bottom : T (le (n .min .y) (b .min .y))
   pub top : T (le (b .max .y) (n .max .y))
 
+-- the same box but for the signs of zeros
+pub record SameBox (a b : Bounds) : Type 0 where
+  pub left : T (eq (a .min .x) (b .min .x))
+  pub bottom : T (eq (a .min .y) (b .min .y))
+  pub right : T (eq (a .max .x) (b .max .x))
+  pub top : T (eq (a .max .y) (b .max .y))
+
 -- ---- boxes around points and boxes
 -- of two numbers the lesser and the greater, the first where they are equal
 abbrev pub lesser : Float → Float → Float
@@ -99,6 +106,13 @@ unfolding lt
 hull a b = record {
   min = record { x = lesser (a .min .x) (b .min .x); y = lesser (a .min .y) (b .min .y) };
   max = record { x = greater (a .max .x) (b .max .x); y = greater (a .max .y) (b .max .y) };
+}
+
+-- the same as the Rust has it, by IEEE 754's minimum and maximum
+unfoldable pub hullIeee : Bounds → Bounds → Bounds
+hullIeee a b = record {
+  min = record { x = minOf (a .min .x) (b .min .x); y = minOf (a .min .y) (b .min .y) };
+  max = record { x = maxOf (a .max .x) (b .max .x); y = maxOf (a .max .y) (b .max .y) };
 }
 
 -- the box with nothing in it, and the box of one point

@@ -4,3 +4,5 @@
 pub mod WriteLaws
 -- Containment in the Rust's order of edges.
 pub mod ContainsLaws
+-- The Rust's bounds and location, by IEEE 754's minimum and maximum.
+pub mod SameByMinMax

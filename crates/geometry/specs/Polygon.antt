@@ -1,9 +1,10 @@
 -- An outline's containment, location and bounds, over its edges or vertices (document 01, geometry.rs). Definitions only.
-use mathlib.Core.Bool.{Bool, _&&_, cond}
+use mathlib.Core.Bool.{Bool, true, false, _&&_, cond}
 use mathlib.Core.List.{List}
 use Prim.Native.Nat.{ℕ, _-_}
 use lib.Dec.{eqb}
-use lib.Ieee.{Float, binary64, unlike, add, sub, mul, div, lt, le, eq}
+use lib.Ieee.{Float, inf, binary64, unlike, add, sub, mul, div, lt, le, eq}
+use Rattle.number.specs.Signs.{minOf, maxOf}
 use Rattle.number.specs.Exact.{zeroᶠ}
 use Rattle.boundary.specs.declared.Point.{Point}
 use Rattle.boundary.specs.declared.Edge.{Edge}
@@ -54,7 +55,30 @@ unfoldable pub locateOf : List Edge → Point → ℕ
 unfolding any onEdge containsOf
 locateOf es p = cond (any (onEdge p) es) 1 (cond (containsOf es p) 2 0)
 
+-- the same in the Rust's own operations: the box of the edge's two ends is by IEEE 754's minimum and maximum
+abbrev pub betweenRust : Float → Float → Float → Bool
+betweenRust a b q = le (minOf a b) q && le q (maxOf a b)
+
+unfoldable pub onEdgeRust : Point → Edge → Bool
+unfolding sub mul le eq
+onEdgeRust p e = eq (crossOf e p) zeroᶠ && (betweenRust (e .a .x) (e .b .x) (p .x) && betweenRust (e .a .y) (e .b .y) (p .y))
+
+unfoldable pub locateRust : List Edge → Point → ℕ
+unfolding any onEdgeRust containsOf
+locateRust es p = cond (any (onEdgeRust p) es) 1 (cond (containsOf es p) 2 0)
+
 -- ---- bounds: the box of all vertices
 unfoldable pub boundsOf : List Point → Bounds
 unfolding fold hull
 boundsOf ps = fold stretched emptyBox ps
+
+-- the same in the Rust's own operations: a fold over the vertices for each corner number, from +infinity by IEEE 754's minimum or from -infinity by its maximum
+abbrev pub foldBy : (Float → Float → Float) → (Point → Float) → Float → List Point → Float
+foldBy f get start ps = fold (λ m p. f m (get p)) start ps
+
+unfoldable pub boundsRust : List Point → Bounds
+unfolding fold
+boundsRust ps = record {
+  min = record { x = foldBy minOf (λ p. p .x) (inf false) ps; y = foldBy minOf (λ p. p .y) (inf false) ps };
+  max = record { x = foldBy maxOf (λ p. p .x) (inf true) ps; y = foldBy maxOf (λ p. p .y) (inf true) ps };
+}

@@ -6,41 +6,36 @@ use Prim.Native.Nat.{ℕ, _<_}
 use native.Mathlib.Omega.{arith}
 use lib.Dec.{T, leb}
 use lib.ListN.{length}
-use lib.Ieee.{Float, nan, inf, fin, binary64, mul, neg, lt, le}
-use lib.Ieee.Fits.{and-l, and-r}
+use lib.Ieee.{Float, nan, inf, fin, binary64, mul, lt}
 use lib.Ieee.Scale.{finite}
 use Rattle.number.specs.Signs.{absOf, maxOf}
-use Rattle.number.proofs.OrderLaws.{finite-between, max-one-of}
+use Rattle.number.proofs.OrderLaws.{max-one-of}
 use Rattle.number.proofs.Values.{add-not-nan, sub-not-nan, mul-not-nan, abs-finite}
 use Rattle.boundary.specs.declared.Bounds.{Bounds}
 use Rattle.number.specs.Exact.{Held, one}
-use Rattle.boundary.specs.Boxes.{FiniteBox, Around, limit, inField, boxFits, hull, emptyBox, nano, scaleOf, widenedOf}
+use Rattle.boundary.specs.Boxes.{FiniteBox, Around, boxFits, hull, emptyBox, nano, scaleOf, widenedOf}
 use Rattle.lists.specs.Lists.{fold, times, In}
 use Rattle.number.proofs.Basics.{one-of}
+use Rattle.boundary.proofs.FieldLaws.{in-field-finite, fits-in-field}
 use Rattle.boundary.proofs.AroundLaws.{NotNan, NumberBox, around-self, around-through, hull-number, hull-around, hull-within, around-nowhere, nowhere-number}
 use Rattle.sorts.specs.Sort.{sort}
 use Rattle.sorts.proofs.SortLaws.{length-sort, times-sort}
-use Rattle.tree.specs.Tree.{hullOf}
+use Rattle.tree.specs.Tree.{hullBy, hullOf}
 use Rattle.lists.proofs.MemberLaws.{in-cons, in-first, in-rest}
 
 -- ---- widened boxes
-field-finite : (x : Float) → T (inField x) → T (finite x)
-field-finite x h = finite-between (neg limit) x limit (unfold neg in tt) tt (and-l (le (neg limit) x) (le x limit) h) (and-r (le (neg limit) x) (le x limit) h)
-
 grow-finite : (x y : Float) → T (finite x) → T (finite y) → T (finite (maxOf x (absOf y)))
 grow-finite x y p q = max-one-of (λ v. T (finite v)) {x = x} {y = absOf y} p (abs-finite y q)
 
 -- a box that passes test 11 has finite corners, and its widened box no NaN
 pub fits-wide : (b : Bounds) → T (boxFits b) → NumberBox (widenedOf b)
-unfolding boxFits widenedOf scaleOf
+unfolding widenedOf scaleOf
 fits-wide b h =
-    let left = field-finite (b .min .x) (and-l (inField (b .min .x)) _ h) in
-    let h₁ = and-r (inField (b .min .x)) _ h in
-    let bottom = field-finite (b .min .y) (and-l (inField (b .min .y)) _ h₁) in
-    let h₂ = and-r (inField (b .min .y)) _ h₁ in
-    let right = field-finite (b .max .x) (and-l (inField (b .max .x)) _ h₂) in
-    let h₃ = and-r (inField (b .max .x)) _ h₂ in
-    let top = field-finite (b .max .y) (and-l (inField (b .max .y)) _ h₃) in
+    let F = fits-in-field b h in
+    let left = in-field-finite (b .min .x) (F .min .x) in
+    let bottom = in-field-finite (b .min .y) (F .min .y) in
+    let right = in-field-finite (b .max .x) (F .max .x) in
+    let top = in-field-finite (b .max .y) (F .max .y) in
     let s₁ = maxOf one (absOf (b .min .x)) in
     let s₂ = maxOf s₁ (absOf (b .min .y)) in
     let s₃ = maxOf s₂ (absOf (b .max .x)) in
@@ -126,7 +121,7 @@ module _ (W : ℕ → Bounds) where
   fold-finite [] b B F = B
   fold-finite (x ∷ xs) b B F = fold-finite xs (hull b (W x)) (hull-finite b (W x) B (F x (in-first x xs))) (λ i h. F i (in-rest i x xs h))
 
-  pub list-finite : (is : List ℕ) → 0 < length is → ((i : ℕ) → In i is → FiniteBox (W i)) → FiniteBox (fold (λ b i. hull b (W i)) emptyBox is)
+  pub list-finite : (is : List ℕ) → 0 < length is → ((i : ℕ) → In i is → FiniteBox (W i)) → FiniteBox (hullBy hull W is)
   unfolding fold
   list-finite [] l F = absurd (omega arith)
   list-finite (x ∷ xs) l F = let X = F x (in-first x xs) in rw (hull-first (W x) X) (fold-finite xs (W x) X (λ i h. F i (in-rest i x xs h)))

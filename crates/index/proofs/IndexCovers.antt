@@ -17,7 +17,7 @@ use Rattle.lists.proofs.MemberLaws.{times-append}
 use Rattle.sorts.proofs.SortLaws.{times-sort}
 use Rattle.accept.specs.declared.Test.the-variants.{Passed}
 use Rattle.boxes.specs.BoxLists.{boxCount, boxAt, boxesOf, wideAt, centreOf}
-use Rattle.tree.specs.Tree.{Tree, leaf, inner, hullOf, treeOf, indexOf, itemsOf, EachNode}
+use Rattle.tree.specs.Tree.{Tree, leaf, inner, treeBox, hullOf, treeOf, indexOf, itemsOf, EachNode}
 use Rattle.nodes.specs.Layout.{nodesOf}
 use Rattle.boundary.specs.Boxes.{boxFits}
 use Rattle.index.specs.Answers.{boxesTested}
@@ -140,21 +140,17 @@ module _ (W : ℕ → Bounds) (C : ℕ → Point) where
           (all, (λ i k. hull-of-around W is N i (rw (all i) at k), P .1, Q .1))
 
 -- ---- a child's box lies in its parent's, and no box has a NaN
-abbrev pub rootBox : Tree → Bounds
-rootBox (leaf b is) = b
-rootBox (inner b l r) = b
-
 unfoldable pub Nested : Tree → Type 0
 Nested (leaf b is) = NumberBox b
-Nested (inner b l r) = NumberBox b × Around b (rootBox l) × Around b (rootBox r) × Nested l × Nested r
+Nested (inner b l r) = NumberBox b × Around b (treeBox l) × Around b (treeBox r) × Nested l × Nested r
 
 tree-nested : (W : ℕ → Bounds) (C : ℕ → Point) (is : List ℕ) → ((i : ℕ) → In i is → NumberBox (W i)) → Nested (treeOf W C is)
 unfolding Nested
-tree-nested W C is N = tree-induct W C (λ is t. ((i : ℕ) → In i is → NumberBox (W i)) → (rootBox t ≡ hullOf W is) × Nested t) (λ is _ N. (refl, hull-of-number W is N)) step (length is) is (omega arith) N .1
+tree-nested W C is N = tree-induct W C (λ is t. ((i : ℕ) → In i is → NumberBox (W i)) → (treeBox t ≡ hullOf W is) × Nested t) (λ is _ N. (refl, hull-of-number W is N)) step (length is) is (omega arith) N .1
   where
-    step : (is : List ℕ) (l r : Tree) → 4 < length is → (((i : ℕ) → In i (left C is) → NumberBox (W i)) → (rootBox l ≡ hullOf W (left C is)) × Nested l)
-        → (((i : ℕ) → In i (right C is) → NumberBox (W i)) → (rootBox r ≡ hullOf W (right C is)) × Nested r)
-        → ((i : ℕ) → In i is → NumberBox (W i)) → (rootBox (inner (hullOf W is) l r) ≡ hullOf W is) × Nested (inner (hullOf W is) l r)
+    step : (is : List ℕ) (l r : Tree) → 4 < length is → (((i : ℕ) → In i (left C is) → NumberBox (W i)) → (treeBox l ≡ hullOf W (left C is)) × Nested l)
+        → (((i : ℕ) → In i (right C is) → NumberBox (W i)) → (treeBox r ≡ hullOf W (right C is)) × Nested r)
+        → ((i : ℕ) → In i is → NumberBox (W i)) → (treeBox (inner (hullOf W is) l r) ≡ hullOf W is) × Nested (inner (hullOf W is) l r)
     step is l r h p q N =
         let one : (i : ℕ) → In i (left C is) → In i is = λ i k. let z = times-halves C is i in omega arith in
         let two : (i : ℕ) → In i (right C is) → In i is = λ i k. let z = times-halves C is i in omega arith in

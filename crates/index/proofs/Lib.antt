@@ -8,7 +8,7 @@ pub mod HullLaws
 pub mod IndexCovers
 -- What the build leaves holds the tree.
 pub mod ReadLaws
--- The order of a node's entries does not show in its box, nor in the axis.
+-- Neither the order of a node's entries nor which minimum and maximum are taken shows in its box, but for a zero's sign, nor in the axis.
 pub mod AnyOrder
--- The Rust's build gives the index.
+-- The Rust's build gives the index, and what an accepted call gives beside it.
 pub mod RustLaws

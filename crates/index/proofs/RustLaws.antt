@@ -1,4 +1,4 @@
--- THE RUST'S BUILD gives the index, whatever its selections leave, once each leaf's items are put in ascending order, but for the signs of zeros in its boxes. Assumes nothing.
+-- THE RUST'S BUILD gives the index, whatever its selections leave, once each leaf's items are put in ascending order, but for the signs of zeros in its boxes; and what an accepted call gives beside it. Assumes nothing.
 use mathlib.Core.Path.{_≡_, refl, sym, ap, _∙_, subst}
 use mathlib.Core.Bool.{Bool, true, false}
 use mathlib.Core.List.{List}
@@ -6,34 +6,41 @@ use Prim.Native.Nat.{ℕ, zero, suc, _+_, _*_, _/_, _^_, _≤_, _<_}
 use native.Mathlib.Nat.{le-trans, mul-le-mul, le-refl}
 use native.Mathlib.Omega.{arith}
 use borrow.Author.Tests.{ltb-true, ltb-false}
-use lib.Dec.{T, leb, ltb, lit≤}
-use lib.Ieee.{Float, nan, binary64, add, sub, fits}
-use lib.Ieee.Fits.{and-l, and-r, mul-fits}
-use lib.ListN.{length, take, drop, getD, take-append-drop, length-drop}
+use lib.Dec.{leb, ltb, lit≤}
+use lib.Ieee.{Float, binary64, add, sub}
+use lib.Ieee.Fits.{mul-fits}
+use lib.ListN.{length, take, drop, take-append-drop, length-drop}
 use lib.Seq.{length-take-le}
 use lib.IntN.{pos}
-use Rattle.number.specs.Exact.{Is, Held}
+use Rattle.number.specs.Exact.{Is, Held, Doubles}
 use Rattle.number.proofs.Operations.{equation→is, is-held}
 use Rattle.number.proofs.ExactLaws.{mul-result}
 use Rattle.number.proofs.Values.{add-grown, sub-grown}
 use Rattle.boundary.specs.declared.Point.{Point}
 use Rattle.boundary.specs.declared.Bounds.{Bounds}
-use Rattle.boundary.specs.Boxes.{inField, boxFits, PointOf, FieldValue, FieldBox, widenedOf}
+use Rattle.boundary.specs.Boxes.{PointOf, FieldValue, FieldBox, DoubleBox, hullIeee, widenedOf}
 use Rattle.lists.specs.Lists.{run, times, In}
 use Rattle.boundary.specs.Line.{half, middle}
 use Rattle.boundary.proofs.AroundLaws.{NumberBox}
-use Rattle.boundary.proofs.FieldLaws.{field-is}
+use Rattle.boundary.proofs.FieldLaws.{field-is, fits-in-field, double-field}
 use Rattle.boundary.proofs.BoxLaws.{widening-field}
 use Rattle.accept.specs.declared.Test.the-variants.{Passed}
+use Rattle.accept.specs.declared.Refusal.the-variants.{ShortBuffer}
+use Rattle.accept.specs.Answers.{Outcome}
+use Rattle.accept.proofs.TestLaws.{refusing-passed, given-passed}
 use Rattle.sorts.specs.Sort.{sort, Selected}
 use Rattle.sorts.specs.Keys.{precedes}
 use Rattle.lists.proofs.MemberLaws.{times-append}
 use Rattle.sorts.proofs.SortLaws.{length-sort}
 use Rattle.sorts.proofs.SelectLaws.{selected-first, selected-rest, sort-selected}
 use Rattle.boxes.specs.BoxLists.{boxCount, boxAt, wideAt, centreOf}
-use Rattle.tree.specs.Tree.{Tree, leaf, inner, alongY, centreAlong, ordered, treeOf, indexOf}
-use Rattle.index.specs.Answers.{boxesTested}
-use Rattle.index.specs.Rust.{hullAs, alongYAs, Builds, few, many, BuiltTree, ascended, SameTree, same-leaf, same-inner}
+use Rattle.tree.specs.Tree.{Tree, leaf, inner, hullBy, alongYBy, alongY, centreAlong, ordered, treeOf, indexOf, itemsOf}
+use Rattle.nodes.specs.Layout.{nodesOf}
+use Rattle.index.specs.declared.Built.{Built}
+use Rattle.index.specs.declared.Built.the-variants.{Refused, Sized}
+use Rattle.index.specs.Buffer.{IndexBuffer, shortBuffer, holding}
+use Rattle.index.specs.Answers.{boxesTested, buildTested, buildOutcome}
+use Rattle.index.specs.Rust.{Builds, few, many, BuiltTree, BuildsIndex, BuiltAsRust, ascended, SameTree, same-leaf, same-inner}
 use Rattle.nodes.proofs.TreeLaws.{left, right, tree-leaf, tree-split, tree-sorted}
 use Rattle.index.proofs.AnyOrder.{hull-same, axis-same}
 use Rattle.index.proofs.IndexCovers.{passed-fits, listed-number, numbers-below}
@@ -64,14 +71,14 @@ module _ (W : ℕ → Bounds) (C : ℕ → Point) where
   -- over entries whose boxes have no NaN and whose centres are finite
   pub builds-same : {is : List ℕ} {t : Tree} → ((i : ℕ) → In i is → NumberBox (W i)) → ((i : ℕ) → In i is → PointOf Held (C i)) → Builds W C is t → SameTree (ascended t) (treeOf W C is)
   unfolding ascended
-  builds-same N H (few {is = is} h) = subst (SameTree (leaf (hullAs W is) (sort leb is))) (sym (tree-leaf W C (length is) is h)) (same-leaf (hull-same W is N))
+  builds-same N H (few {is = is} h) = subst (SameTree (leaf (hullBy hullIeee W is) (sort leb is))) (sym (tree-leaf W C (length is) is h)) (same-leaf (hull-same W is N))
   builds-same N H (many {is = is} {ys = ys} {l = l} {r = r} h s p q) =
       let m = length is / 2 in
       let s′ : Selected (precedes (centreAlong (alongY C is) C)) m is ys = subst (λ (y : Bool). Selected (precedes (centreAlong y C)) m is ys) (axis-same C is (omega arith) H) s in
       let part = part-members m is ys (s .same) in
       let P = builds-same (λ i k. N i (part i .0 k)) (λ i k. H i (part i .0 k)) p in
       let Q = builds-same (λ i k. N i (part i .1 k)) (λ i k. H i (part i .1 k)) q in
-      subst (SameTree (inner (hullAs W is) (ascended l) (ascended r))) (sym (tree-split W C is h))
+      subst (SameTree (inner (hullBy hullIeee W is) (ascended l) (ascended r))) (sym (tree-split W C is h))
       (same-inner (hull-same W is N) (subst (SameTree (ascended l)) (tree-first is ys h s′) P) (subst (SameTree (ascended r)) (tree-rest is ys h s′) Q))
 
   -- and there is such a tree over every list: a sort is a selection
@@ -79,10 +86,10 @@ module _ (W : ℕ → Bounds) (C : ℕ → Point) where
   builds-some is = go (length is) is (omega arith)
     where
       step : (f : ℕ) (js : List ℕ) → length js ≤ suc f → ((ks : List ℕ) → length ks ≤ f → BuiltTree W C ks) → (b : Bool) → ltb 4 (length js) ≡ b → BuiltTree W C js
-      step f js h built false e = record { tree = leaf (hullAs W js) js; builds = few (ltb-false 4 (length js) e) }
+      step f js h built false e = record { tree = leaf (hullBy hullIeee W js) js; builds = few (ltb-false 4 (length js) e) }
       step f js h built true e =
           let l = ltb-true 4 (length js) e in
-          let key = centreAlong (alongYAs C js) C in
+          let key = centreAlong (alongYBy hullIeee C js) C in
           let m = length js / 2 in
           let ys = sort (precedes key) js in
           let n = length-sort (precedes key) js in
@@ -90,10 +97,10 @@ module _ (W : ℕ → Bounds) (C : ℕ → Point) where
           let b = length-drop m ys in
           let P = built (take m ys) (omega arith) in
           let Q = built (drop m ys) (omega arith) in
-          record { tree = inner (hullAs W js) (P .tree) (Q .tree); builds = many l (sort-selected key m js) (P .builds) (Q .builds) }
+          record { tree = inner (hullBy hullIeee W js) (P .tree) (Q .tree); builds = many l (sort-selected key m js) (P .builds) (Q .builds) }
 
       go : (f : ℕ) (js : List ℕ) → length js ≤ f → BuiltTree W C js
-      go zero js h = record { tree = leaf (hullAs W js) js; builds = few {is = js} (omega arith) }
+      go zero js h = record { tree = leaf (hullBy hullIeee W js) js; builds = few {is = js} (omega arith) }
       go (suc f) js h = step f js h (go f) (ltb 4 (length js)) refl
 
 -- ---- of a list of boxes
@@ -114,22 +121,34 @@ centre-held : {b : Bounds} → FieldBox b → PointOf Held (centreOf (widenedOf 
 unfolding centreOf widenedOf
 centre-held B = let w = widening-field B in record { x = middle-held (B .min .x) (B .max .x) w; y = middle-held (B .min .y) (B .max .y) w }
 
--- `f64`s that pass test 11 are a box of the field
-box-field : (b : Bounds) → T (boxFits b) → T (fits binary64 (b .min .x)) → T (fits binary64 (b .min .y)) → T (fits binary64 (b .max .x)) → T (fits binary64 (b .max .y)) → FieldBox b
-unfolding boxFits
-box-field b h left bottom right top =
-    let h₁ = and-r (inField (b .min .x)) _ h in
-    let h₂ = and-r (inField (b .min .y)) _ h₁ in
-    let h₃ = and-r (inField (b .max .x)) _ h₂ in record {
-      min = record { x = record { fits = left; in-field = and-l (inField (b .min .x)) _ h }; y = record { fits = bottom; in-field = and-l (inField (b .min .y)) _ h₁ } };
-      max = record { x = record { fits = right; in-field = and-l (inField (b .max .x)) _ h₂ }; y = record { fits = top; in-field = and-l (inField (b .max .y)) _ h₃ } };
-    }
+module _ (v : List Float) (passed : boxesTested v ≡ Passed) (doubles : Doubles v) where
+  -- box i is one of the field, and its entry's centre is finite
+  entry-held : (i : ℕ) → In i (run (λ n. n) 0 (boxCount v)) → PointOf Held (centreOf (wideAt v i))
+  unfolding wideAt boxAt
+  entry-held i k =
+      let l = numbers-below (boxCount v) i k in
+      let each = doubles .each in
+      let D : DoubleBox (boxAt v i) = record {
+        min = record { x = each (4 * i) (omega arith); y = each (4 * i + 1) (omega arith) };
+        max = record { x = each (4 * i + 2) (omega arith); y = each (4 * i + 3) (omega arith) };
+      } in
+      centre-held (double-field D (fits-in-field (boxAt v i) (passed-fits v passed i l)))
 
--- a list of `f64`s that passes the tests
-pub builds-index : (v : List Float) → boxesTested v ≡ Passed → ((j : ℕ) → j < length v → T (fits binary64 (getD v j nan))) → (t : Tree)
-    → Builds (wideAt v) (λ i. centreOf (wideAt v i)) (run (λ i. i) 0 (boxCount v)) t → SameTree (ascended t) (indexOf v)
-unfolding indexOf wideAt boxAt
-builds-index v passed held t b =
-    builds-same (wideAt v) (λ i. centreOf (wideAt v i)) (listed-number v passed)
-    (λ i k. let l = numbers-below (boxCount v) i k in centre-held (box-field (boxAt v i) (passed-fits v passed i l) (held (4 * i) (omega arith)) (held (4 * i + 1) (omega arith)) (held (4 * i + 2) (omega arith)) (held (4 * i + 3) (omega arith))))
-    b
+  -- a list of `f64`s that passes the tests
+  pub builds-index : (t : Tree) → BuildsIndex v t → SameTree (ascended t) (indexOf v)
+  unfolding indexOf
+  builds-index t b = builds-same (wideAt v) (λ i. centreOf (wideAt v i)) (listed-number v passed) entry-held b
+
+-- THE CALL: accepted, over a lent list of `f64`s
+pub built-as-rust : (v : List Float) (B : IndexBuffer) → buildTested v B ≡ Passed → Doubles v → BuiltAsRust v B
+unfolding buildOutcome buildTested
+built-as-rust v B passed doubles =
+    let o : Outcome Built IndexBuffer = record { answer = Sized (length (nodesOf (indexOf v))) (length (itemsOf (indexOf v))); lent = holding (indexOf v) B } in
+    let left = given-passed passed o (λ r. record { answer = Refused r; lent = B }) in
+    let some = builds-some (wideAt v) (λ i. centreOf (wideAt v i)) (run (λ i. i) 0 (boxCount v)) in
+    record {
+      answer = ap (λ (o : Outcome Built IndexBuffer). o .answer) left;
+      lent = ap (λ (o : Outcome Built IndexBuffer). o .lent) left;
+      same = builds-index v (refusing-passed (boxesTested v) ShortBuffer (shortBuffer B) passed .0) doubles;
+      some = (some .tree, some .builds);
+    }

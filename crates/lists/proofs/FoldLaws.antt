@@ -134,3 +134,14 @@ module _ {A : Type 0} (p : A → Bool) where
   pub every-fails : (xs : List A) → any p xs ≡ false → Every (λ x. p x ≡ false) xs
   unfolding any
   every-fails xs h = every-from false xs h
+
+-- tests that agree on every member
+module _ {A : Type 0} (p q : A → Bool) where
+  same-from : (b : Bool) (xs : List A) → Every (λ x. p x ≡ q x) xs → fold (λ c x. c || p x) b xs ≡ fold (λ c x. c || q x) b xs
+  unfolding fold Every
+  same-from b [] h = refl
+  same-from b (x ∷ xs) h = rw (h .0) (same-from (b || q x) xs (h .1))
+
+  pub any-same : (xs : List A) → Every (λ x. p x ≡ q x) xs → any p xs ≡ any q xs
+  unfolding any
+  any-same xs h = same-from false xs h

@@ -4,7 +4,7 @@
 pub mod RunLaws
 -- Folds, and whether some member passes a test.
 pub mod FoldLaws
--- Lists related member by member, and how often a number occurs.
+-- Lists related member by member, how often a number occurs, and what holds of every member.
 pub mod MemberLaws
 -- Runs of stores into a list.
 pub mod StoreLaws

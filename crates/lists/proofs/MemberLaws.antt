@@ -1,4 +1,4 @@
--- Lists related member by member, and members of a list by how often they occur. Assumes nothing.
+-- Lists related member by member, members of a list by how often they occur, and what holds of every member. Assumes nothing.
 use mathlib.Core.Path.{_≡_, refl, ap, subst}
 use mathlib.Core.Bool.{Bool, true, false, cond, _||_}
 use mathlib.Core.List.{List, [], _∷_, _++_, reverse, reverseAux}
@@ -7,7 +7,7 @@ use native.Mathlib.Omega.{arith}
 use lib.Dec.{eqb}
 use lib.ListN.{length, take, drop, take-append-drop}
 use borrow.Author.Tests.{eq-eqb, eqb-true}
-use Rattle.lists.specs.Lists.{fold, any, times, In, Each}
+use Rattle.lists.specs.Lists.{run, fold, any, times, In, Every, Each}
 use Rattle.lists.specs.Lists.Each.{none, more}
 
 module _ {A B : Type 0} {R : A → B → Type 0} where
@@ -64,3 +64,14 @@ in-first x xs = rw (eq-eqb x x refl) (omega arith)
 pub in-rest : (i x : ℕ) (xs : List ℕ) → In i xs → In i (x ∷ xs)
 unfolding times
 in-rest i x xs h = omega arith
+
+-- what holds of each member by its number holds of every member
+pub every-in : (P : ℕ → Type 0) (xs : List ℕ) → ((i : ℕ) → In i xs → P i) → Every P xs
+unfolding Every
+every-in P [] h = tt
+every-in P (x ∷ xs) h = (h x (in-first x xs), every-in P xs (λ i k. h i (in-rest i x xs k)))
+
+pub every-run : {A : Type 0} (P : A → Type 0) (g : ℕ → A) (i k : ℕ) → ((j : ℕ) → j < i + k → P (g j)) → Every P (run g i k)
+unfolding Every run
+every-run P g i zero h = tt
+every-run P g i (suc k) h = (h i (omega arith), every-run P g (suc i) k (λ j l. h j (omega arith)))

@@ -22,13 +22,13 @@ use Rattle.accept.specs.declared.Refusal.the-variants.{BadBox, ShortBuffer}
 use Rattle.accept.specs.declared.Test.{Test}
 use Rattle.accept.specs.declared.Test.the-variants.{Passed, Failed}
 use Rattle.accept.proofs.TestLaws.{refusing-passed}
-use Rattle.tree.specs.Tree.{Tree, leaf, inner, indexOf, itemsOf}
+use Rattle.tree.specs.Tree.{Tree, leaf, inner, treeBox, indexOf, itemsOf}
 use Rattle.nodes.specs.Layout.{firstAt, countAt}
 use Rattle.index.specs.Buffer.{IndexBuffer, buffer, shortBuffer, holding, grown, cleared, Stands, levels}
 use Rattle.index.specs.Answers.{boxesTested, Accepted}
 use Rattle.lists.proofs.StoreLaws.{sets-front}
 use Rattle.index.proofs.GrowLaws.{length-index-items, accepted-of, grown-lent, holding-cleared}
-use Rattle.index.proofs.IndexCovers.{rootBox, Nested, nested, index-stands}
+use Rattle.index.proofs.IndexCovers.{Nested, nested, index-stands}
 use Rattle.meeting.specs.Meeting.{apart, meetingOf, visitedOf}
 use Rattle.meeting.specs.Walk.{hits, found}
 use Rattle.meeting.specs.Answers.{MeetingLent, meetingTested, listing, meetingOutcome}
@@ -62,11 +62,11 @@ apart-inside b a c h = or-true _ _ _ _ _ _ _ _
     (λ e. low-apart (c .max .y) (b .min .y) (a .min .y) e (h .bottom)) (λ e. high-apart (a .max .y) (b .max .y) (c .min .y) (h .top) e)
 
 module _ (c : Bounds) where
-  meeting-none : (t : Tree) → Nested t → apart (rootBox t) c ≡ true → meetingOf c t ≡ []
+  meeting-none : (t : Tree) → Nested t → apart (treeBox t) c ≡ true → meetingOf c t ≡ []
   unfolding meetingOf Nested
   meeting-none (leaf b is) n e = rw e
   meeting-none (inner b l r) n e =
-      rw (meeting-none l (n .3) (apart-inside b (rootBox l) c (n .1) e), meeting-none r (n .4) (apart-inside b (rootBox r) c (n .2) e))
+      rw (meeting-none l (n .3) (apart-inside b (treeBox l) c (n .1) e), meeting-none r (n .4) (apart-inside b (treeBox r) c (n .2) e))
 
   -- THE WALK that leaves a node whose box shares no point lists the same
   pub visited-is : (t : Tree) → Nested t → visitedOf c t ≡ meetingOf c t
@@ -75,7 +75,7 @@ module _ (c : Bounds) where
   visited-is (inner b l r) n = go (apart b c) refl (visited-is l (n .3)) (visited-is r (n .4))
     where
       go : (x : Bool) → apart b c ≡ x → visitedOf c l ≡ meetingOf c l → visitedOf c r ≡ meetingOf c r → cond x [] (visitedOf c l ++ visitedOf c r) ≡ meetingOf c l ++ meetingOf c r
-      go true e p q = rw (meeting-none l (n .3) (apart-inside b (rootBox l) c (n .1) e), meeting-none r (n .4) (apart-inside b (rootBox r) c (n .2) e))
+      go true e p q = rw (meeting-none l (n .3) (apart-inside b (treeBox l) c (n .1) e), meeting-none r (n .4) (apart-inside b (treeBox r) c (n .2) e))
       go false e p q = rw (p, q)
 
   pub length-meeting : (t : Tree) → length (meetingOf c t) ≤ length (itemsOf t)

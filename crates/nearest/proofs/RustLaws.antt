@@ -18,7 +18,7 @@ use Rattle.boundary.specs.Boxes.{FieldPoint, gapOf}
 use Rattle.lists.specs.Lists.{fold, times, In}
 use Rattle.sorts.specs.Keys.{totalLess}
 use Rattle.lists.proofs.MemberLaws.{times-append, in-cons, in-first, in-rest}
-use Rattle.tree.specs.Tree.{Tree, leaf, inner, indexOf, itemsOf, EachNode}
+use Rattle.tree.specs.Tree.{Tree, leaf, inner, treeBox, indexOf, itemsOf, EachNode}
 use Rattle.nodes.specs.Layout.{extra}
 use Rattle.boundary.proofs.AroundLaws.{NotNan}
 use Rattle.set.specs.Set.{Outline, setBoxes, Fitting, DoubleSet}
@@ -31,7 +31,7 @@ use Rattle.search.proofs.SetSearch.{gap-number}
 use Rattle.nearest.specs.declared.Nearest.{Nearest}
 use Rattle.nearest.specs.declared.Nearest.the-variants.{Refused, None, At}
 use Rattle.nearest.specs.Nearest.{nearestIn}
-use Rattle.nearest.specs.Rust.{Waiting, boxIn, waitingFor, sooner, Out, leastOut, chosen, looked, opened, tooFar, walkOn, walkOf}
+use Rattle.nearest.specs.Rust.{Waiting, waitingFor, sooner, Out, leastOut, chosen, looked, opened, tooFar, walkOn, walkOf}
 
 -- ---- lists of nodes that wait: what holds of each, and sums
 data All (P : Waiting → Type 0) : List Waiting → Type 0 where
@@ -128,7 +128,7 @@ out-is P N x (y ∷ ys) p (more q qs) = go (leastOut y ys) (out-is P N y ys q qs
         }
 
 -- ---- the walk
-each-root : (P : Bounds → List ℕ → Type 0) (t : Tree) → EachNode P t → P (boxIn t) (itemsOf t)
+each-root : (P : Bounds → List ℕ → Type 0) (t : Tree) → EachNode P t → P (treeBox t) (itemsOf t)
 unfolding EachNode itemsOf
 each-root P (leaf b is) h = h
 each-root P (inner b l r) h = h .0
@@ -141,13 +141,13 @@ hasOf i x = times i (itemsOf (x .tree))
 
 module _ (D : ℕ → Float) (n : ℕ) (p : Point) where
   record Good (x : Waiting) : Type 0 where
-    gap : x .gap ≡ gapOf (boxIn (x .tree)) p
+    gap : x .gap ≡ gapOf (treeBox (x .tree)) p
     near : EachNode (Nearby D n p) (x .tree)
 
   good-number : (x : Waiting) → Good x → NotNan (x .gap)
-  good-number x g = rw (g .gap) (gap-number (boxIn (x .tree)) p)
+  good-number x g = rw (g .gap) (gap-number (treeBox (x .tree)) p)
 
-  good-gap : (x : Waiting) → Good x → (i : ℕ) → 0 < hasOf i x → Gapped D n p (boxIn (x .tree)) i
+  good-gap : (x : Waiting) → Good x → (i : ℕ) → 0 < hasOf i x → Gapped D n p (treeBox (x .tree)) i
   good-gap x g i h = each-root (Nearby D n p) (x .tree) (g .near) i h
 
   good-le : (x : Waiting) → Good x → (i : ℕ) → 0 < hasOf i x → T (le (x .gap) (D i))

@@ -6,11 +6,10 @@ use lib.Dec.{eqb, ltb}
 use lib.ListN.{length}
 use lib.Ieee.{Float, lt}
 use Rattle.boundary.specs.declared.Point.{Point}
-use Rattle.boundary.specs.declared.Bounds.{Bounds}
 use Rattle.boundary.specs.Boxes.{gapOf}
 use Rattle.lists.specs.Lists.{fold}
 use Rattle.sorts.specs.Keys.{totalLess}
-use Rattle.tree.specs.Tree.{Tree, leaf, inner, indexOf}
+use Rattle.tree.specs.Tree.{Tree, leaf, inner, treeBox, indexOf}
 use Rattle.nodes.specs.Layout.{extra}
 use Rattle.set.specs.Set.{Outline, setBoxes}
 use Rattle.search.specs.Least.{magnitudeOf, magnitudeAt}
@@ -25,12 +24,8 @@ pub record Waiting : Type 0 where
   pub next : ℕ
   pub tree : Tree
 
-abbrev pub boxIn : Tree → Bounds
-boxIn (leaf b is) = b
-boxIn (inner b l r) = b
-
 abbrev pub waitingFor : Point → ℕ → ℕ → Tree → Waiting
-waitingFor p n next t = record { gap = gapOf (boxIn t) p; node = n; next = next; tree = t }
+waitingFor p n next t = record { gap = gapOf (treeBox t) p; node = n; next = next; tree = t }
 
 -- a is taken out before b: by gap, then by number
 abbrev pub sooner : Waiting → Waiting → Bool

@@ -1,4 +1,4 @@
--- The order of all floats that are no NaN, infinities included, and what the magnitude, the maximum and the clamp have to do with it. Assumes nothing.
+-- The order of all floats that are no NaN, infinities included, and what the magnitude, the minimum, the maximum and the clamp have to do with it. Assumes nothing.
 use mathlib.Core.Path.{_≡_, refl, sym, subst}
 use mathlib.Core.Logic.{⊎-elim}
 use mathlib.Core.Bool.{Bool, true, false, not, _&&_, _||_, cond}
@@ -15,10 +15,10 @@ use Rattle.algebra.specs.Order.{_≦_, _≺_, ≤ℤ-trans, ≤ℤ-of-eq}
 use Rattle.algebra.specs.Sign.{signed}
 use Rattle.number.specs.Exact.{Is, zeroᶠ}
 use Rattle.number.specs.Root.{Plus, plus-inf, plus-fin}
-use Rattle.number.specs.Signs.{signBit, absOf, standsBefore, maxOf, clampOf}
+use Rattle.number.specs.Signs.{signBit, absOf, standsBefore, minOf, maxOf, clampOf}
 use Rattle.number.proofs.Basics.{or-l, or-r, or-split, one-of}
 use Rattle.number.proofs.Operations.{equation→is, rescale}
-use Rattle.number.proofs.Compare.{lt-is, le-is, eq→, not-lt, le-of-signs, le-neg}
+use Rattle.number.proofs.Compare.{same-bool, lt-is, le-is, eq→, not-lt, le-of-signs, le-neg}
 use Rattle.number.proofs.Tests.{le-not-nan}
 use Rattle.number.proofs.SignLaws.{abs-negates}
 use Rattle.number.proofs.PlusLaws.{zero-le}
@@ -186,6 +186,32 @@ through-below x y z h k = go (lt x z) refl
     go true e = tt
     go false e = absurd (below-not-le y z k (le-through z x y (not-below x z (left-not-nan x y h) (right-not-nan y z (below-le y z (is-true (lt y z) k))) e) h))
 
+-- ---- floats that are level, zeros of either sign among them: each is at most the other
+pub level-self : (x : Float) → T (not (isNan x)) → T (eq x x)
+level-self x n = le-level x x (le-self x n) (le-self x n)
+
+pub level-both : (x y : Float) → T (eq x y) → T (le x y) × T (le y x)
+level-both x y h = let e = is-true (eq x y) h in (level-le x y e, level-ge x y e)
+
+pub level-through : (x y z : Float) → T (eq x y) → T (eq y z) → T (eq x z)
+level-through x y z h k =
+    let p = level-both x y h in
+    let q = level-both y z k in
+    le-level x z (le-through x y z (p .0) (q .0)) (le-through z y x (q .1) (p .1))
+
+-- they are below the same floats, and at most the same
+pub lt-level : (a a′ b b′ : Float) → T (le a a′) → T (le a′ a) → T (le b b′) → T (le b′ b) → lt a b ≡ lt a′ b′
+lt-level a a′ b b′ p q r s =
+    same-bool (lt a b) (lt a′ b′)
+    (λ h. below-through a′ b b′ (through-below a′ a b q h) r)
+    (λ h. below-through a b′ b (through-below a a′ b′ p h) s)
+
+pub at-most-level : (a a′ b b′ : Float) → T (le a a′) → T (le a′ a) → T (le b b′) → T (le b′ b) → le a b ≡ le a′ b′
+at-most-level a a′ b b′ p q r s =
+    same-bool (le a b) (le a′ b′)
+    (λ h. le-through a′ a b′ q (le-through a b b′ h r))
+    (λ h. le-through a a′ b p (le-through a′ b′ b h s))
+
 -- of two floats at most one is below the other
 pub lt-asym : (x y : Float) → lt x y ≡ true → lt y x ≡ false
 lt-asym x y e = le-not-below y x (below-le x y e)
@@ -297,6 +323,46 @@ le-max-right x y q = go (isNan x) (isNan y) q (lt y x) refl (eq y x) refl (signB
     go false false m false e true f true = level-le y x f
     go false false m false e true f false = le-self y q
     go false false m false e false f s = le-self y q
+
+-- where neither is a NaN, it is the second where the first is below it and the first where not, but for the sign of a zero
+pub max-is-greater : (x y : Float) → T (not (isNan x)) → T (not (isNan y)) → T (eq (cond (lt x y) y x) (maxOf x y))
+max-is-greater x y p q =
+    le-level (cond (lt x y) y x) (maxOf x y)
+    (one-of (λ v. T (le v (maxOf x y))) (lt x y) (le-max-right x y q) (le-max-left x y p q))
+    (max-one-of (λ v. T (le v (cond (lt x y) y x))) (first (lt x y) refl) (second (lt x y) refl))
+  where
+    first : (b : Bool) → lt x y ≡ b → T (le x (cond b y x))
+    first true e = below-le x y e
+    first false e = le-self x p
+
+    second : (b : Bool) → lt x y ≡ b → T (le y (cond b y x))
+    second true e = le-self y q
+    second false e = not-below x y p q e
+
+-- ---- the minimum
+
+-- it is one of the two
+pub min-one-of : (P : Float → Type 0) {x y : Float} → P x → P y → P (minOf x y)
+unfolding minOf
+min-one-of P {x} {y} p q = one-of P (isNan x) q (one-of P (isNan y || standsBefore x y) p q)
+
+-- where neither is a NaN, it is the second where that is below the first and the first where not, but for the sign of a zero
+pub min-is-lesser : (x y : Float) → T (not (isNan x)) → T (not (isNan y)) → T (eq (cond (lt y x) y x) (minOf x y))
+unfolding minOf standsBefore
+min-is-lesser x y p q = go (isNan x) p (isNan y) q (lt x y) refl (eq x y) refl (signBit x) (lt y x) refl
+  where
+    go : (a : Bool) → T (not a) → (b : Bool) → T (not b) → (c : Bool) → lt x y ≡ c → (d : Bool) → eq x y ≡ d → (s : Bool)
+        → (g : Bool) → lt y x ≡ g → T (eq (cond g y x) (cond a y (cond (b || (c || (d && s))) x y)))
+    go true n b m c e d f s g h = absurd n
+    go false n true m c e d f s g h = absurd m
+    go false n false m true e d f s true h = absurd (below-not-le x y (subst T (sym e) tt) (below-le y x h))
+    go false n false m true e d f s false h = level-self x p
+    go false n false m false e true f true true h = le-level y x (level-ge x y f) (level-le x y f)
+    go false n false m false e true f true false h = level-self x p
+    go false n false m false e true f false true h = level-self y q
+    go false n false m false e true f false false h = le-level x y (not-below y x q p h) (not-below x y p q e)
+    go false n false m false e false f s true h = level-self y q
+    go false n false m false e false f s false h = le-level x y (not-below y x q p h) (not-below x y p q e)
 
 -- ---- the clamp
 

@@ -16,18 +16,13 @@ use Rattle.boundary.specs.Boxes.{PointOf, BoxOf, inField, lesser, greater, hull
 use Rattle.lists.specs.Lists.{run, fold}
 use Rattle.boundary.specs.Outline.{count, vertexAt, vertices}
 use Rattle.number.proofs.Basics.{one-of}
+use Rattle.boundary.proofs.FieldLaws.{in-field-number}
 use Rattle.boundary.proofs.AlongLaws.{ends-between}
 use Rattle.geometry.specs.Polygon.{boundsOf}
 use Rattle.boundary.specs.Boxes.{boxFits}
 
 abbrev pub InField : Float → Type 0
 InField x = T (inField x)
-
-not-nan : (x : Float) → InField x → T (not (isNan x))
-unfolding le neg isNan
-not-nan nan h = absurd h
-not-nan (inf s) h = tt
-not-nan (fin s m e) h = tt
 
 -- P holds of numbers of the field only
 module _ (P : Float → Type 0) (field : (x : Float) → P x → InField x) where
@@ -38,7 +33,7 @@ module _ (P : Float → Type 0) (field : (x : Float) → P x → InField x) wher
     pub order : T (le lo hi)
 
   number : {x : Float} → P x → T (not (isNan x))
-  number {x} p = not-nan x (field x p)
+  number {x} p = in-field-number x (field x p)
 
   -- the first number
   span-first : (q : Float) → P q → Span (lesser (inf false) q) (greater (inf true) q)

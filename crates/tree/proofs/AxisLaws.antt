@@ -10,5 +10,5 @@ use Rattle.tree.specs.Tree.{spreadOf, alongY}
 
 -- what the code's test of the centres' box says
 pub wider-along : (P : ℕ → Point) (is : List ℕ) (b : Bounds) (t : Bool) → b ≡ spreadOf P is → lt (sub binary64 (b .max .x) (b .min .x)) (sub binary64 (b .max .y) (b .min .y)) ≡ t → alongY P is ≡ t
-unfolding alongY
+unfolding alongY spreadOf
 wider-along P is b t e h = rw e at h

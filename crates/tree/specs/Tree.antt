@@ -7,7 +7,7 @@ use lib.ListN.{length, take, drop}
 use lib.Ieee.{Float, binary64, sub, lt}
 use Rattle.boundary.specs.declared.Point.{Point}
 use Rattle.boundary.specs.declared.Bounds.{Bounds}
-use Rattle.boundary.specs.Boxes.{hull, emptyBox, stretched}
+use Rattle.boundary.specs.Boxes.{hull, emptyBox, pointBox}
 use Rattle.lists.specs.Lists.{run, fold}
 use Rattle.sorts.specs.Keys.{precedes}
 use Rattle.sorts.specs.Sort.{sort, halves}
@@ -18,20 +18,36 @@ pub data Tree : Type 0 where
   leaf : Bounds → List ℕ → Tree
   inner : Bounds → Tree → Tree → Tree
 
--- the box around the items' boxes, which are taken in the order of their numbers
-unfoldable pub hullOf : (ℕ → Bounds) → List ℕ → Bounds
-unfolding fold hull sort
-hullOf W is = fold (λ b i. hull b (W i)) emptyBox (sort leb is)
+-- a tree's own box
+abbrev pub treeBox : Tree → Bounds
+treeBox (leaf b is) = b
+treeBox (inner b l r) = b
 
--- the box of the items' centres, taken in the same order
-unfoldable pub spreadOf : (ℕ → Point) → List ℕ → Bounds
-unfolding fold hull sort
-spreadOf C is = fold (λ b i. stretched b (C i)) emptyBox (sort leb is)
+-- ---- what is worked out of a node's items, gone through as they stand; `join` gives the box around two boxes
+-- the box around the items' boxes
+abbrev pub hullBy : (Bounds → Bounds → Bounds) → (ℕ → Bounds) → List ℕ → Bounds
+hullBy join W is = fold (λ b i. join b (W i)) emptyBox is
+
+-- the box of the items' centres
+abbrev pub spreadBy : (Bounds → Bounds → Bounds) → (ℕ → Point) → List ℕ → Bounds
+spreadBy join C is = hullBy join (λ i. pointBox (C i)) is
 
 -- whether the centres spread wider along y; x on a tie
+abbrev pub alongYBy : (Bounds → Bounds → Bounds) → (ℕ → Point) → List ℕ → Bool
+alongYBy join C is = let s = spreadBy join C is in lt (sub binary64 (s .max .x) (s .min .x)) (sub binary64 (s .max .y) (s .min .y))
+
+-- ---- the same of the items in the order of their numbers
+unfoldable pub hullOf : (ℕ → Bounds) → List ℕ → Bounds
+unfolding fold hull sort
+hullOf W is = hullBy hull W (sort leb is)
+
+unfoldable pub spreadOf : (ℕ → Point) → List ℕ → Bounds
+unfolding fold hull sort
+spreadOf C is = spreadBy hull C (sort leb is)
+
 unfoldable pub alongY : (ℕ → Point) → List ℕ → Bool
-unfolding spreadOf sub lt
-alongY C is = lt (sub binary64 (spreadOf C is .max .x) (spreadOf C is .min .x)) (sub binary64 (spreadOf C is .max .y) (spreadOf C is .min .y))
+unfolding fold hull sort sub lt
+alongY C is = alongYBy hull C (sort leb is)
 
 -- the centre along that axis
 abbrev pub centreAlong : Bool → (ℕ → Point) → ℕ → Float
