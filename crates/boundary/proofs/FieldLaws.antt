@@ -16,8 +16,9 @@ use Rattle.number.proofs.RoundingLaws.{rounded-within}
 use Rattle.number.proofs.ExactLaws.{sub-result}
 use Rattle.number.proofs.OrderLaws.{is-order, order-is, finite-between}
 use Rattle.number.proofs.Values.{abs-is, abs-held, held-not-nan, rounded-natAbs, add-grown, is-short}
+use Rattle.boundary.specs.declared.Point.{Point}
 use Rattle.boundary.specs.declared.Bounds.{Bounds}
-use Rattle.boundary.specs.Boxes.{limit, FieldValue, FieldBox, FiniteBox, widenedBy}
+use Rattle.boundary.specs.Boxes.{limit, inField, pointInField, boxFits, FieldValue, FieldPoint, FieldBox, FiniteBox, DoublePoint, DoubleBox, widenedBy}
 
 -- ---- values of the field
 
@@ -43,6 +44,29 @@ field-is {x} h =
 
 pub field-box-finite : {b : Bounds} → FieldBox b → FiniteBox b
 field-box-finite B = record { min = record { x = field-held (B .min .x); y = field-held (B .min .y) }; max = record { x = field-held (B .max .x); y = field-held (B .max .y) } }
+
+-- a point and a box of `f64`s that pass the tests of the field
+pub double-point-field : {p : Point} → DoublePoint p → T (pointInField p) → FieldPoint p
+double-point-field {p} d t = record {
+  x = record { fits = d .x; in-field = and-l (inField (p .x)) (inField (p .y)) t };
+  y = record { fits = d .y; in-field = and-r (inField (p .x)) (inField (p .y)) t };
+}
+
+pub double-box-field : {b : Bounds} → DoubleBox b → T (boxFits b) → FieldBox b
+unfolding boxFits
+double-box-field {b} d t₀ =
+    let t₁ = and-r (inField (b .min .x)) _ t₀ in
+    let t₂ = and-r (inField (b .min .y)) _ t₁ in
+    let t₃ = and-r (inField (b .max .x)) _ t₂ in record {
+      min = record {
+        x = record { fits = d .min .x; in-field = and-l (inField (b .min .x)) _ t₀ };
+        y = record { fits = d .min .y; in-field = and-l (inField (b .min .y)) _ t₁ };
+      };
+      max = record {
+        x = record { fits = d .max .x; in-field = and-l (inField (b .max .x)) _ t₂ };
+        y = record { fits = d .max .y; in-field = and-l (inField (b .max .y)) _ t₃ };
+      };
+    }
 
 pub field-not-nan : {x : Float} → FieldValue x → T (not (isNan x))
 field-not-nan h = held-not-nan (field-held h)
