@@ -1,4 +1,4 @@
--- What `any_at` tells: yes where an outline whose box has the point contains it, and yes only where some outline contains it. Assumes nothing.
+-- What `any_at` tells: yes where an outline whose box has the point contains it, and yes only where an outline listed for the point contains it. Assumes nothing.
 use mathlib.Core.Path.{_≡_, refl, sym, ap, _∙_}
 use mathlib.Core.Bool.{Bool, true, false, cond, _||_, true≢false}
 use mathlib.Core.List.{List, [], _∷_}
@@ -15,6 +15,7 @@ use Rattle.meeting.specs.Meeting.{apart}
 use Rattle.meeting.proofs.MeetingLists.{meeting-lists}
 use Rattle.set.specs.Set.{Outline, setBox, setBoxes, Fitting, DoubleSet}
 use Rattle.lists.proofs.FoldLaws.{any-from}
+use Rattle.lists.proofs.MemberLaws.{in-first, in-rest}
 use Rattle.set.proofs.SetLaws.{outline-past, boxes-length, box-at-set, boxes-tested, box-field}
 use Rattle.boundary.specs.Boxes.{pointBox}
 use Rattle.any.specs.Answers.{listedAt, containsIn, anyAt}
@@ -35,14 +36,14 @@ module _ (f : ℕ → Bool) where
       go false z k rest = rw (rest (omega arith)) (or-true (f y))
 
   -- the member that passes
-  any-some : (xs : List ℕ) → any f xs ≡ true → (x : ℕ) × (f x ≡ true)
+  any-some : (xs : List ℕ) → any f xs ≡ true → (x : ℕ) × In x xs × (f x ≡ true)
   unfolding any fold
   any-some [] e = absurd (true≢false (sym e))
   any-some (y ∷ ys) e = go (f y) refl (sym (any-from f (f y) ys) ∙ e) (any-some ys)
     where
-      go : (b : Bool) → f y ≡ b → (b || any f ys) ≡ true → (any f ys ≡ true → (x : ℕ) × (f x ≡ true)) → (x : ℕ) × (f x ≡ true)
-      go true z h rest = (y, z)
-      go false z h rest = rest h
+      go : (b : Bool) → f y ≡ b → (b || any f ys) ≡ true → (any f ys ≡ true → (x : ℕ) × In x ys × (f x ≡ true)) → (x : ℕ) × In x (y ∷ ys) × (f x ≡ true)
+      go true z h rest = (y, in-first y ys, z)
+      go false z h rest = let r = rest h in (r .0, in-rest (r .0) y ys (r .1), r .2)
 
 module _ (os : List Outline) (p : Point) where
   -- YES where an outline contains the point and its box has it: the outlines' numbers are `f64`s
@@ -59,13 +60,13 @@ module _ (os : List Outline) (p : Point) where
   unfolding containsOf oddMany fold edges run
   contains-past k l = rw (outline-past os k l)
 
-  -- YES only where an outline of the set contains it
-  pub any-at-some : anyAt os p ≡ true → (k : ℕ) × (k < length os) × (containsIn os p k ≡ true)
+  -- YES only where an outline of the set that is listed for the point contains it
+  pub any-at-some : anyAt os p ≡ true → (k : ℕ) × (k < length os) × In k (listedAt os p) × (containsIn os p k ≡ true)
   unfolding anyAt
   any-at-some e =
       let s = any-some (containsIn os p) (listedAt os p) e in
-      go (s .0) (s .1) (ltb (s .0) (length os)) refl
+      (s .0, within (s .0) (s .2) (ltb (s .0) (length os)) refl, s .1, s .2)
     where
-      go : (k : ℕ) → containsIn os p k ≡ true → (b : Bool) → ltb k (length os) ≡ b → (k : ℕ) × (k < length os) × (containsIn os p k ≡ true)
-      go k h true b = (k, ltb-true k (length os) b, h)
-      go k h false b = absurd (true≢false (sym h ∙ sym (contains-past k (ltb-false k (length os) b))))
+      within : (k : ℕ) → containsIn os p k ≡ true → (b : Bool) → ltb k (length os) ≡ b → k < length os
+      within k h true b = ltb-true k (length os) b
+      within k h false b = absurd (true≢false (sym h ∙ sym (contains-past k (ltb-false k (length os) b))))

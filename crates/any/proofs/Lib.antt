@@ -6,3 +6,5 @@ pub mod AnyLaws
 pub mod ListedLaws
 -- What `any_at` tells.
 pub mod AnyAt
+-- Where a call that passes the tests tells yes.
+pub mod AcceptedYes

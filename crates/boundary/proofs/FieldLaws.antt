@@ -17,8 +17,9 @@ use Rattle.number.proofs.RoundingLaws.{rounded-within}
 use Rattle.number.proofs.ExactLaws.{sub-result}
 use Rattle.number.proofs.OrderLaws.{is-order, order-is, right-not-nan, finite-between}
 use Rattle.number.proofs.Values.{abs-is, abs-held, rounded-natAbs, add-grown, is-short}
+use Rattle.boundary.specs.declared.Point.{Point}
 use Rattle.boundary.specs.declared.Bounds.{Bounds}
-use Rattle.boundary.specs.Boxes.{limit, inField, boxFits, BoxOf, DoubleBox, FieldValue, FieldBox, FiniteBox, widenedBy}
+use Rattle.boundary.specs.Boxes.{limit, inField, pointInField, boxFits, BoxOf, DoublePoint, DoubleBox, FieldValue, FieldPoint, FieldBox, FiniteBox, widenedBy}
 
 -- ---- values of the field
 
@@ -69,6 +70,16 @@ double-field D F = record {
   min = record { x = record { fits = D .min .x; in-field = F .min .x }; y = record { fits = D .min .y; in-field = F .min .y } };
   max = record { x = record { fits = D .max .x; in-field = F .max .x }; y = record { fits = D .max .y; in-field = F .max .y } };
 }
+
+-- a point and a box of `f64`s that pass the tests of the field
+pub double-point-field : {p : Point} → DoublePoint p → T (pointInField p) → FieldPoint p
+double-point-field {p} d t = record {
+  x = record { fits = d .x; in-field = and-l (inField (p .x)) (inField (p .y)) t };
+  y = record { fits = d .y; in-field = and-r (inField (p .x)) (inField (p .y)) t };
+}
+
+pub double-box-field : {b : Bounds} → DoubleBox b → T (boxFits b) → FieldBox b
+double-box-field {b} d t = double-field d (fits-in-field b t)
 
 pub field-not-nan : {x : Float} → FieldValue x → T (not (isNan x))
 field-not-nan {x} h = in-field-number x (h .in-field)

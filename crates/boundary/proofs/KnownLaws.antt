@@ -3,21 +3,18 @@ use mathlib.Core.Path.{_≡_, sym, subst}
 use mathlib.Core.Bool.{true}
 use mathlib.Core.List.{List}
 use lib.Dec.{T}
-use lib.Ieee.{Float, binary64, fits}
 use lib.Ieee.Fits.{and-l, and-r}
 use mir.Val.{Val}
 use denote.Laws.{Is as Owned}
 use Rattle.boundary.specs.declared.Point.{Point}
 use Rattle.boundary.specs.declared.Edge.{Edge}
-use Rattle.boundary.specs.Boxes.{inField, pointInField, edgeInField, FieldValue, FieldPoint, FieldEdge}
+use Rattle.boundary.specs.Boxes.{pointInField, edgeInField, FieldPoint, FieldEdge}
+use Rattle.boundary.proofs.FieldLaws.{double-point-field}
 use Rattle.boundary.proofs.Point as point
 use Rattle.boundary.proofs.Edge as edge
 
-field-value : {x : Float} → fits binary64 x ≡ true → T (inField x) → FieldValue x
-field-value f t = record { fits = subst T (sym f) tt; in-field = t }
-
 point-tested : {p : Point} {vs : List Val} → Owned point.the-row p vs → T (pointInField p) → FieldPoint p
-point-tested {p} o t = record { x = field-value (o .1 .1 .0 .1) (and-l (inField (p .x)) (inField (p .y)) t); y = field-value (o .1 .1 .1 .0 .1) (and-r (inField (p .x)) (inField (p .y)) t) }
+point-tested o t = double-point-field (record { x = subst T (sym (o .1 .1 .0 .1)) tt; y = subst T (sym (o .1 .1 .1 .0 .1)) tt }) t
 
 -- so one that passes the test of the field is of the field
 pub owned-point : {p : Point} {vs : List Val} → Owned point.the-row p vs → pointInField p ≡ true → FieldPoint p

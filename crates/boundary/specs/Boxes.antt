@@ -59,7 +59,10 @@ FieldBox b = BoxOf FieldValue b
 abbrev pub FiniteBox : Bounds → Type 0
 FiniteBox b = BoxOf Held b
 
--- a box whose corners are `f64`s
+-- a point whose coordinates are `f64`s, and a box whose corners are
+abbrev pub DoublePoint : Point → Type 0
+DoublePoint p = PointOf (λ x. T (fits binary64 x)) p
+
 abbrev pub DoubleBox : Bounds → Type 0
 DoubleBox b = BoxOf (λ x. T (fits binary64 x)) b
 

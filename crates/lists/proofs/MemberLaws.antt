@@ -38,6 +38,23 @@ module _ {A B : Type 0} {R : A → B → Type 0} where
     unfolding any
     any-each r = each-from false r
 
+-- ---- what holds of every member
+module _ {A : Type 0} where
+  pub each-all : {P Q : A → Type 0} (xs : List A) → ((x : A) → P x → Q x) → Every P xs → Every Q xs
+  unfolding Every
+  each-all [] f e = tt
+  each-all (x ∷ xs) f e = (f x (e .0), each-all xs f (e .1))
+
+  pub every-append : (P : A → Type 0) (xs ys : List A) → Every P xs → Every P ys → Every P (xs ++ ys)
+  unfolding Every
+  every-append P [] ys h k = k
+  every-append P (x ∷ xs) ys h k = (h .0, every-append P xs ys (h .1) k)
+
+  pub every-both : (P Q : A → Type 0) (xs : List A) → Every P xs → Every Q xs → Every (λ x. P x × Q x) xs
+  unfolding Every
+  every-both P Q [] h k = tt
+  every-both P Q (x ∷ xs) h k = ((h .0, k .0), every-both P Q xs (h .1) (k .1))
+
 -- ---- how often a number occurs
 pub times-append : (i : ℕ) (xs ys : List ℕ) → times i (xs ++ ys) ≡ times i xs + times i ys
 unfolding times

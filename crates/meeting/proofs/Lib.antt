@@ -6,3 +6,5 @@ pub mod WalkLaws
 pub mod MeetingLaws
 -- Every box that shares a point with the cell is listed.
 pub mod MeetingLists
+-- What a call that passes the tests lists.
+pub mod AcceptedLists

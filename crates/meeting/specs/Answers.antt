@@ -3,7 +3,7 @@ use mathlib.Core.Bool.{not}
 use mathlib.Core.List.{List}
 use Prim.Native.Nat.{ℕ}
 use lib.Dec.{ltb}
-use lib.ListN.{length}
+use lib.ListN.{length, take}
 use lib.Ieee.{Float}
 use Rattle.boundary.specs.declared.Bounds.{Bounds}
 use Rattle.boundary.specs.Boxes.{boxFits}
@@ -36,10 +36,9 @@ pub record MeetingLent : Type 0 where
 
 -- what a call that passes them leaves: how many items there are, the buffer cleared, and the items at the front of the list
 unfoldable pub listing : List Float → Bounds → IndexBuffer → List ℕ → Outcome ℕ MeetingLent
-listing v c B S = record {
-  answer = length (meetingOf c (indexOf v));
-  lent = record { buffer = cleared B; list = atFront (meetingOf c (indexOf v)) S };
-}
+listing v c B S =
+    let items = meetingOf c (indexOf v) in
+    record { answer = length items; lent = record { buffer = cleared B; list = atFront items S } }
 
 -- what every call leaves
 unfoldable pub meetingOutcome : List Float → Bounds → IndexBuffer → List ℕ → Outcome Answer MeetingLent
@@ -51,3 +50,7 @@ meetingOutcome v c B S = given (meetingTested v c B S)
 -- the same, with the answer in its fields
 abbrev pub meetingCall : List Float → Bounds → IndexBuffer → List ℕ → Outcome CountFields MeetingLent
 meetingCall v c B S = inFields countFields (meetingOutcome v c B S)
+
+-- the numbers that a call lists: as many of the first places of its list as it counts, and so none where it is refused
+unfoldable pub listedBy : List Float → Bounds → IndexBuffer → List ℕ → List ℕ
+listedBy v c B S = take (meetingCall v c B S .answer .count) (meetingCall v c B S .lent .list)

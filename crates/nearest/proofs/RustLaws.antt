@@ -15,9 +15,9 @@ use Rattle.number.proofs.OrderLaws.{le-through, below-through, below-le, below-
 use Rattle.boundary.specs.declared.Point.{Point}
 use Rattle.boundary.specs.declared.Bounds.{Bounds}
 use Rattle.boundary.specs.Boxes.{FieldPoint, gapOf}
-use Rattle.lists.specs.Lists.{fold, times, In}
+use Rattle.lists.specs.Lists.{fold, times, In, Every}
 use Rattle.sorts.specs.Keys.{totalLess}
-use Rattle.lists.proofs.MemberLaws.{times-append, in-cons, in-first, in-rest}
+use Rattle.lists.proofs.MemberLaws.{each-all, every-append, every-both, times-append, in-cons, in-first, in-rest}
 use Rattle.tree.specs.Tree.{Tree, leaf, inner, treeBox, indexOf, itemsOf, EachNode}
 use Rattle.nodes.specs.Layout.{extra}
 use Rattle.boundary.proofs.AroundLaws.{NotNan}
@@ -33,11 +33,7 @@ use Rattle.nearest.specs.declared.Nearest.the-variants.{Refused, None, A
 use Rattle.nearest.specs.Nearest.{nearestIn}
 use Rattle.nearest.specs.Rust.{Waiting, waitingFor, sooner, Out, leastOut, chosen, looked, opened, tooFar, walkOn, walkOf}
 
--- ---- lists of nodes that wait: what holds of each, and sums
-data All (P : Waiting → Type 0) : List Waiting → Type 0 where
-  none : All P []
-  more : {x : Waiting} {xs : List Waiting} → P x → All P xs → All P (x ∷ xs)
-
+-- ---- sums over the nodes that wait
 unfoldable sum : (Waiting → ℕ) → List Waiting → ℕ
 sum w [] = 0
 sum w (x ∷ xs) = w x + sum w xs
@@ -47,27 +43,15 @@ unfolding sum
 sum-append w [] ys = omega arith
 sum-append w (x ∷ xs) ys = let h = sum-append w xs ys in omega arith
 
-all-append : {P : Waiting → Type 0} (xs ys : List Waiting) → All P xs → All P ys → All P (xs ++ ys)
-all-append [] ys none q = q
-all-append (x ∷ xs) ys (more p ps) q = more p (all-append xs ys ps q)
-
-all-map : {P Q : Waiting → Type 0} (xs : List Waiting) → ((x : Waiting) → P x → Q x) → All P xs → All Q xs
-all-map [] f none = none
-all-map (x ∷ xs) f (more p ps) = more (f x p) (all-map xs f ps)
-
-all-both : (P Q : Waiting → Type 0) (ys : List Waiting) → All P ys → All Q ys → All (λ y. P y × Q y) ys
-all-both P Q [] none none = none
-all-both P Q (y ∷ ys) (more p ps) (more q qs) = more (p, q) (all-both P Q ys ps qs)
-
 -- a sum is positive where one of its parts is
-sum-some : {P : Waiting → Type 0} (w : Waiting → ℕ) (xs : List Waiting) (A : Type 0) → ((x : Waiting) → P x → 0 < w x → A) → All P xs → 0 < sum w xs → A
-unfolding sum
-sum-some w [] A f none h = absurd (omega arith)
-sum-some w (x ∷ xs) A f (more p ps) h = go (ℕ-discrete (w x) 0) (sum-some w xs A f ps)
+sum-some : {P : Waiting → Type 0} (w : Waiting → ℕ) (xs : List Waiting) (A : Type 0) → ((x : Waiting) → P x → 0 < w x → A) → Every P xs → 0 < sum w xs → A
+unfolding sum Every
+sum-some w [] A f ps h = absurd (omega arith)
+sum-some w (x ∷ xs) A f ps h = go (ℕ-discrete (w x) 0) (sum-some w xs A f (ps .1))
   where
     go : Dec (w x ≡ 0) → (0 < sum w xs → A) → A
     go (yes e) ih = ih (omega arith)
-    go (no a) ih = f x p (omega arith)
+    go (no a) ih = f x (ps .0) (omega arith)
 
 -- ---- the least is taken out
 or-false : (a b : Bool) → (a || b) ≡ false → a ≡ false
@@ -102,28 +86,28 @@ sooner-not a b A B h = not-totally (a .gap) (b .gap) A B (or-false (totalLess (a
 
 record OutIs (P : Waiting → Type 0) (x : Waiting) (xs : List Waiting) (o : Out) : Type 0 where
   first : P (o .first)
-  rest : All P (o .rest)
-  least : All (λ y. T (le (o .first .gap) (y .gap))) (o .rest)
+  rest : Every P (o .rest)
+  least : Every (λ y. T (le (o .first .gap) (y .gap))) (o .rest)
   sums : (w : Waiting → ℕ) → w (o .first) + sum w (o .rest) ≡ w x + sum w xs
 
-out-is : (P : Waiting → Type 0) → ((y : Waiting) → P y → NotNan (y .gap)) → (x : Waiting) (xs : List Waiting) → P x → All P xs → OutIs P x xs (leastOut x xs)
-unfolding leastOut sum
-out-is P N x [] p none = record { first = p; rest = none; least = none; sums = λ w. refl }
-out-is P N x (y ∷ ys) p (more q qs) = go (leastOut y ys) (out-is P N y ys q qs) (sooner (leastOut y ys .first) x) refl
+out-is : (P : Waiting → Type 0) → ((y : Waiting) → P y → NotNan (y .gap)) → (x : Waiting) (xs : List Waiting) → P x → Every P xs → OutIs P x xs (leastOut x xs)
+unfolding leastOut sum Every
+out-is P N x [] p qs = record { first = p; rest = tt; least = tt; sums = λ w. refl }
+out-is P N x (y ∷ ys) p qs = go (leastOut y ys) (out-is P N y ys (qs .0) (qs .1)) (sooner (leastOut y ys .first) x) refl
   where
     go : (o : Out) → OutIs P y ys o → (s : Bool) → sooner (o .first) x ≡ s → OutIs P x (y ∷ ys) (cond s (record { first = o .first; rest = x ∷ o .rest }) (record { first = x; rest = o .first ∷ o .rest }))
     go o i true e = record {
       first = i .first;
-      rest = more p (i .rest);
-      least = more (sooner-le (o .first) x (N (o .first) (i .first)) (N x p) e) (i .least);
+      rest = (p, i .rest);
+      least = (sooner-le (o .first) x (N (o .first) (i .first)) (N x p) e, i .least);
       sums = λ w. let h = i .sums w in omega arith;
     }
     go o i false e =
         let l = sooner-not (o .first) x (N (o .first) (i .first)) (N x p) e in
         record {
           first = p;
-          rest = more (i .first) (i .rest);
-          least = more l (all-map (o .rest) (λ y h. le-through (x .gap) (o .first .gap) (y .gap) l h) (i .least));
+          rest = (i .first, i .rest);
+          least = (l, each-all (o .rest) (λ y h. le-through (x .gap) (o .first .gap) (y .gap) l h) (i .least));
           sums = λ w. let h = i .sums w in omega arith;
         }
 
@@ -166,7 +150,7 @@ module _ (D : ℕ → Float) (n : ℕ) (p : Point) where
 
   record Walking (f : ℕ) (ws : List Waiting) (best : Nearest) : Type 0 where
     turns : sum sizeOf ws ≤ f
-    good : All Good ws
+    good : Every Good ws
     state : State best
     cover : (i : ℕ) → i < n → sum (hasOf i) ws ≡ 0 → Seen best i
 
@@ -206,15 +190,15 @@ module _ (D : ℕ → Float) (n : ℕ) (p : Point) where
         }
 
     -- ---- one turn
-    turn : (f : ℕ) (t : Tree) (next : ℕ) (rest : List Waiting) (best : Nearest) → EachNode (Nearby D n p) t → All Good rest → State best
+    turn : (f : ℕ) (t : Tree) (next : ℕ) (rest : List Waiting) (best : Nearest) → EachNode (Nearby D n p) t → Every Good rest → State best
         → ((i : ℕ) → i < n → times i (itemsOf t) + sum (hasOf i) rest ≡ 0 → Seen best i) → 1 + extra t + sum sizeOf rest ≤ suc f
         → Walking f (rest ++ opened p next t) (looked D best t)
-    unfolding EachNode itemsOf extra opened looked sum
+    unfolding EachNode itemsOf extra opened looked sum Every
     turn f (leaf b is) next rest best E G S C F =
         let l = looked-is is best S (λ i h. E i h .within) in
         record {
           turns = let a = sum-append sizeOf rest [] in omega arith;
-          good = all-append rest [] G none;
+          good = every-append Good rest [] G tt;
           state = l .state;
           cover = λ i h z. let a = sum-append (hasOf i) rest [] in go i h l (omega arith) (ℕ-discrete (times i is) 0);
         }
@@ -227,7 +211,7 @@ module _ (D : ℕ → Float) (n : ℕ) (p : Point) where
         let y = waitingFor p (next + 1) (next + 2 + extra l) r in
         record {
           turns = let a = sum-append sizeOf rest (x ∷ y ∷ []) in omega arith;
-          good = all-append rest (x ∷ y ∷ []) G (more {x = x} (record { gap = refl; near = E .1 }) (more {x = y} (record { gap = refl; near = E .2 }) none));
+          good = every-append Good rest (x ∷ y ∷ []) G (record { gap = refl; near = E .1 }, (record { gap = refl; near = E .2 }, tt));
           state = S;
           cover = λ i h z. let a = sum-append (hasOf i) rest (x ∷ y ∷ []) in let c = times-append i (itemsOf l) (itemsOf r) in C i h (omega arith);
         }
@@ -253,7 +237,7 @@ module _ (D : ℕ → Float) (n : ℕ) (p : Point) where
         go : Dec (hasOf i (o .first) ≡ 0) → Dec (sum (hasOf i) (o .rest) ≡ 0) → Upto D b i
         go (no a) d = farther (good-le (o .first) (O .first) i (omega arith))
         go (yes z) (yes y) = C i l (let s = O .sums (hasOf i) in omega arith)
-        go (yes z) (no a) = sum-some (hasOf i) (o .rest) (Upto D b i) (λ y h k. farther (le-through (o .first .gap) (y .gap) (D i) (h .1) (good-le y (h .0) i k))) (all-both Good (λ y. T (le (o .first .gap) (y .gap))) (o .rest) (O .rest) (O .least)) (omega arith)
+        go (yes z) (no a) = sum-some (hasOf i) (o .rest) (Upto D b i) (λ y h k. farther (le-through (o .first .gap) (y .gap) (D i) (h .1) (good-le y (h .0) i k))) (every-both Good (λ y. T (le (o .first .gap) (y .gap))) (o .rest) (O .rest) (O .least)) (omega arith)
 
     walk-turn : (f : ℕ) (x : Waiting) (xs : List Waiting) (best : Nearest) (o : Out) → OutIs Good x xs o → Walking (suc f) (x ∷ xs) best
         → ((ws : List Waiting) (b : Nearest) → Walking f ws b → walkOn f D p ws b ≡ At (leastOf D n))
@@ -266,14 +250,11 @@ module _ (D : ℕ → Float) (n : ℕ) (p : Point) where
         (λ i l z. W .cover i l (let s = O .sums (hasOf i) in omega arith)) (let s = O .sums sizeOf in let u = W .turns in omega arith))
 
     walk-on : (f : ℕ) (ws : List Waiting) (best : Nearest) → Walking f ws best → walkOn f D p ws best ≡ At (leastOf D n)
-    unfolding walkOn sum
+    unfolding walkOn sum Every
     walk-on zero [] best W = all-seen best (W .state) (λ i l. W .cover i l refl)
     walk-on zero (x ∷ xs) best W = let u = W .turns in absurd (omega arith)
     walk-on (suc f) [] best W = all-seen best (W .state) (λ i l. W .cover i l refl)
-    walk-on (suc f) (x ∷ xs) best W = walk-turn f x xs best (leastOut x xs) (out (W .good)) W (walk-on f) (tooFar best (leastOut x xs .first .gap)) refl
-      where
-        out : All Good (x ∷ xs) → OutIs Good x xs (leastOut x xs)
-        out (more q qs) = out-is Good good-number x xs q qs
+    walk-on (suc f) (x ∷ xs) best W = walk-turn f x xs best (leastOut x xs) (out-is Good good-number x xs (W .good .0) (W .good .1)) W (walk-on f) (tooFar best (leastOut x xs .first .gap)) refl
 
 -- ---- over a set
 module _ (os : List Outline) (p : Point) (fit : Fitting os) (held : DoubleSet os) (P : FieldPoint p) where
@@ -281,10 +262,10 @@ module _ (os : List Outline) (p : Point) (fit : Fitting os) (held : DoubleSet os
   t = indexOf (setBoxes os)
 
   root-walking : 0 < length os → Walking (magnitudeAt os p) (length os) p (1 + extra t) (waitingFor p 0 1 t ∷ []) None
-  unfolding sum
+  unfolding sum Every
   root-walking s = record {
     turns = omega arith;
-    good = more (record { gap = refl; near = tree-gaps os fit held p P t (index-covers os fit held) (index-held os fit held s) }) none;
+    good = (record { gap = refl; near = tree-gaps os fit held p P t (index-covers os fit held) (index-held os fit held s) }, tt);
     state = tt;
     cover = λ i l z. let o = index-has os fit held i l in absurd (omega arith);
   }

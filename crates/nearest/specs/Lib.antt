@@ -6,3 +6,5 @@ pub mod Nearest
 pub mod Answers
 -- The walk in the Rust's own names and order.
 pub mod Rust
+-- The numbers of the nodes that wait in it.
+pub mod Numbers

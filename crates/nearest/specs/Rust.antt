@@ -61,6 +61,10 @@ unfolding extra gapOf
 opened p next (leaf b is) = []
 opened p next (inner b l r) = waitingFor p next (next + 2) l ∷ waitingFor p (next + 1) (next + 2 + extra l) r ∷ []
 
+-- what waits after a turn: the others, and what the least opens
+abbrev pub waitingAfter : Point → Out → List Waiting
+waitingAfter p o = o .rest ++ opened p (o .first .next) (o .first .tree)
+
 -- the gap is above the best
 abbrev pub tooFar : Nearest → Float → Bool
 tooFar None g = false
@@ -74,7 +78,7 @@ walkOn zero D p ws best = best
 walkOn (suc f) D p [] best = best
 walkOn (suc f) D p (x ∷ xs) best =
     let o = leastOut x xs in
-    let later = walkOn f D p (o .rest ++ opened p (o .first .next) (o .first .tree)) (looked D best (o .first .tree)) in
+    let later = walkOn f D p (waitingAfter p o) (looked D best (o .first .tree)) in
     cond (tooFar best (o .first .gap)) best later
 
 -- from the root on: each node is taken out once at most

@@ -1,4 +1,4 @@
--- What a query over a set that passes the tests has, and the boxes and starts that it writes. Assumes nothing.
+-- What a query over a set that passes the tests has, what a query leaves, and the boxes and starts that it writes. Assumes nothing.
 use mathlib.Core.Path.{_≡_, ap, _∙_}
 use mathlib.Core.Bool.{true, _||_}
 use mathlib.Core.List.{List}
@@ -12,8 +12,9 @@ use lib.Ieee.{Float}
 use Rattle.boundary.specs.declared.Point.{Point}
 use Rattle.boundary.specs.Boxes.{pointInField}
 use Rattle.lists.specs.Lists.{run}
-use Rattle.accept.specs.declared.Test.the-variants.{Passed}
-use Rattle.accept.proofs.TestLaws.{refusing-passed}
+use Rattle.accept.specs.declared.Refusal.{Refusal}
+use Rattle.accept.specs.declared.Test.the-variants.{Passed, Failed}
+use Rattle.accept.proofs.TestLaws.{refusing-passed, given-passed, given-failed}
 use Rattle.index.specs.Answers.{Accepted}
 use Rattle.index.specs.Buffer.{IndexBuffer}
 use Rattle.lists.proofs.FoldLaws.{or-none}
@@ -22,7 +23,7 @@ use Rattle.lists.proofs.RunLaws.{length-run, run-at}
 use Rattle.index.proofs.GrowLaws.{front-of}
 use Rattle.set.specs.Set.{startOf, outlinesOf, setBoxes}
 use Rattle.set.specs.Tests.{setQueryTested}
-use Rattle.set.specs.Answers.{Ready, Starts}
+use Rattle.set.specs.Answers.{worked, queryOutcome, Ready, Starts}
 use Rattle.set.proofs.SetLaws.{outlines-length, passed-fit, passed-fitting, boxes-length}
 
 -- ---- what a query that passes the tests has
@@ -47,6 +48,18 @@ query-passed v cs p B e =
       };
       point = not-false (pointInField p) (q .1);
     }
+
+-- ---- what a query leaves
+module _ {A : Type 0} (v : List Float) (cs : List ℕ) (p : Point) (B : IndexBuffer) (a : A) (refused : Refusal → A) where
+  -- its answer, and the buffer cleared
+  pub query-worked : setQueryTested v cs p B ≡ Passed → queryOutcome v cs p B a refused ≡ worked a B
+  unfolding queryOutcome
+  query-worked e = given-passed e _ _
+
+  -- where it is refused, the refusal, and the buffer as it was
+  pub query-refused : {r : Refusal} → setQueryTested v cs p B ≡ Failed r → queryOutcome v cs p B a refused ≡ record { answer = refused r; lent = B }
+  unfolding queryOutcome
+  query-refused e = given-failed e _ _
 
 -- ---- the boxes
 module _ (v : List Float) (cs : List ℕ) where

@@ -6,5 +6,5 @@ pub mod OnePassLaws
 pub mod BoundsLaws
 -- What a set that passes the tests has: its outlines, and their boxes.
 pub mod SetLaws
--- What a query has, and the boxes and starts that it writes.
+-- What a query has and leaves, and the boxes and starts that it writes.
 pub mod AskLaws

@@ -12,6 +12,7 @@ use lib.Seq.{drop-cons, take-suc, take-all, take-at, drop-at, drop-drop, drop-se
 use lib.Ieee.{Float}
 use borrow.Author.Tests.{le-leb, leb-true, leb-false}
 use Rattle.lists.specs.Lists.{Every}
+use Rattle.lists.proofs.MemberLaws.{each-all}
 use Rattle.sorts.specs.Sort.{insert, sort, keep, others, Dealt, Sorted, halves}
 use Rattle.sorts.specs.Keys.{precedesBy, precedes, ahead, aheadBit}
 use Rattle.sorts.proofs.Lists.{rest-of, whole-of}
@@ -19,11 +20,6 @@ use Rattle.sorts.proofs.SortLaws.{length-sort}
 use Rattle.sorts.proofs.Order.{goes-total, goes-trans, goes-antisym, ahead-goes}
 
 -- ---- each member
-pub each-all : {P Q : ℕ → Type 0} (xs : List ℕ) → ((x : ℕ) → P x → Q x) → Every P xs → Every Q xs
-unfolding Every
-each-all [] f e = tt
-each-all (x ∷ xs) f e = (f x (e .0), each-all xs f (e .1))
-
 pub each-keep : (P : ℕ → Type 0) (p : ℕ → Bool) (xs : List ℕ) → Every P xs → Every P (keep p xs)
 unfolding Every keep
 each-keep P p [] e = tt

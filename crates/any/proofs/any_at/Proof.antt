@@ -4,10 +4,8 @@ use mathlib.Core.Bool.{Bool, cond}
 use Rattle.accept.specs.declared.Answer.{Answer}
 use Rattle.accept.specs.declared.Answer.the-variants.{Count}
 use Rattle.accept.specs.Answers.{Outcome, inFields}
-use Rattle.accept.specs.Refusals.{given}
 use Rattle.index.specs.Buffer.{IndexBuffer}
-use Rattle.set.specs.Answers.{queryOutcome}
-use Rattle.set.proofs.AskLaws.{query-passed}
+use Rattle.set.proofs.AskLaws.{query-passed, query-worked, query-refused}
 use Rattle.any.specs.Answers.{anyOutcome}
 use borrow.Author.Needs.{needs}
 use Rattle.any.proofs.any_at.Statement.{statement}
@@ -42,13 +40,13 @@ same-length-3 : tie.Need-same-length-3
 same-length-3 c = search needs
 
 returns : tie.Need-returns
-unfolding anyOutcome queryOutcome given
+unfolding anyOutcome
 returns c =
     let a = c .before .before .before .before .before .before .before in
     let e = a .before .before .before .before in
     let q = e .before .before in
     let m = ap (λ (o : Outcome Bool IndexBuffer). inFields told o) (a .any-of .ensures) in
-    rw (sym (q .query-tested .ensures) ∙ e .enum-told .given .1) (rw (c .if1 .taken) at m)
+    (rw (c .if1 .taken) at m) ∙ sym (query-worked _ _ _ _ _ _ (sym (q .query-tested .ensures) ∙ e .enum-told .given .1))
 
 same-length-4 : tie.Need-same-length-4
 same-length-4 c = search needs
@@ -60,13 +58,13 @@ same-length-6 : tie.Need-same-length-6
 same-length-6 c = search needs
 
 returns-2 : tie.Need-returns-2
-unfolding anyOutcome queryOutcome given
+unfolding anyOutcome
 returns-2 c =
     let a = c .before .before .before .before .before .before .before in
     let e = a .before .before .before .before in
     let q = e .before .before in
     let m = ap (λ (o : Outcome Bool IndexBuffer). inFields told o) (a .any-of .ensures) in
-    rw (sym (q .query-tested .ensures) ∙ e .enum-told .given .1) (rw (c .if1 .left) at m)
+    (rw (c .if1 .left) at m) ∙ sym (query-worked _ _ _ _ _ _ (sym (q .query-tested .ensures) ∙ e .enum-told .given .1))
 
 same-length-7 : tie.Need-same-length-7
 same-length-7 c = search needs
@@ -78,11 +76,11 @@ same-length-9 : tie.Need-same-length-9
 same-length-9 c = search needs
 
 returns-3 : tie.Need-returns-3
-unfolding anyOutcome queryOutcome given
+unfolding anyOutcome
 returns-3 c =
     let t = c .before in
     let q = t .before .before in
-    rw (sym (q .query-tested .ensures) ∙ t .t .given .1)
+    sym (query-refused _ _ _ _ _ _ (sym (q .query-tested .ensures) ∙ t .t .given .1))
 
 pub any-at-spec : {M : Type 1} → statement M
 any-at-spec =

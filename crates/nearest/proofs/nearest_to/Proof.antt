@@ -1,8 +1,6 @@
 -- `nearest::nearest_to` meets its contract. Assumes nothing.
 use mathlib.Core.Path.{sym, _∙_}
-use Rattle.accept.specs.Refusals.{given}
-use Rattle.set.specs.Answers.{queryOutcome}
-use Rattle.set.proofs.AskLaws.{query-passed}
+use Rattle.set.proofs.AskLaws.{query-passed, query-worked, query-refused}
 use Rattle.nearest.specs.Answers.{nearestOutcome}
 use borrow.Author.Needs.{needs}
 use Rattle.nearest.proofs.nearest_to.Statement.{statement}
@@ -34,12 +32,12 @@ same-length-3 : tie.Need-same-length-3
 same-length-3 c = search needs
 
 returns : tie.Need-returns
-unfolding nearestOutcome queryOutcome given
+unfolding nearestOutcome
 returns c =
     let a = c .before .before .before .before .before .before in
     let e = a .before .before .before .before in
     let q = e .before .before in
-    rw (sym (q .query-tested .ensures) ∙ e .enum-told .given .1) (a .answered .ensures)
+    a .answered .ensures ∙ sym (query-worked _ _ _ _ _ _ (sym (q .query-tested .ensures) ∙ e .enum-told .given .1))
 
 same-length-4 : tie.Need-same-length-4
 same-length-4 c = search needs
@@ -51,11 +49,11 @@ same-length-6 : tie.Need-same-length-6
 same-length-6 c = search needs
 
 returns-2 : tie.Need-returns-2
-unfolding nearestOutcome queryOutcome given
+unfolding nearestOutcome
 returns-2 c =
     let t = c .before in
     let q = t .before .before in
-    rw (sym (q .query-tested .ensures) ∙ t .t .given .1)
+    sym (query-refused _ _ _ _ _ _ (sym (q .query-tested .ensures) ∙ t .t .given .1))
 
 pub nearest-to-spec : {M : Type 1} → statement M
 nearest-to-spec =
