@@ -6,7 +6,8 @@ use mathlib.Core.List.{List, [], _∷_}
 use lib.Dec.{T}
 use lib.Ieee.{Float, lt, eq}
 use Rattle.number.specs.Signs.{minOf, maxOf}
-use Rattle.number.proofs.OrderLaws.{level-both, level-through, lt-level, right-not-nan, min-one-of, max-one-of, min-is-lesser, max-is-greater}
+use Rattle.number.proofs.OrderLaws.{level-both, level-through, lt-level, right-not-nan}
+use Rattle.number.proofs.MagnitudeOrder.{min-one-of, max-one-of, min-is-lesser, max-is-greater}
 use Rattle.lists.specs.Lists.{fold, Every}
 use Rattle.boundary.specs.declared.Bounds.{Bounds}
 use Rattle.boundary.specs.Boxes.{BoxOf, SameBox, lesser, greater, hull, hullIeee}

@@ -17,7 +17,7 @@ use Rattle.boundary.specs.declared.Bounds.{Bounds}
 use Rattle.boundary.specs.Boxes.{PointOf, EdgeOf, SameBox, inField, pointInField, edgeInField, lesser, greater, hullIeee, emptyBox, pointBox}
 use Rattle.boundary.specs.Outline.{count, vertexAt, edgeAt, vertices, edges}
 use Rattle.boundary.proofs.FieldLaws.{in-field-number}
-use Rattle.boundary.proofs.AroundLaws.{NotNan, NumberBox, same-self, nowhere-number}
+use Rattle.boundary.proofs.AroundLaws.{NotNan, NumberBox, same-self, empty-number}
 use Rattle.boundary.proofs.MinMaxLaws.{lesser-is-min, greater-is-max, same-fold}
 use Rattle.lists.specs.Lists.{fold}
 use Rattle.lists.proofs.FoldLaws.{any-same}
@@ -62,7 +62,7 @@ unfolding boundsOf boundsRust vertices
 bounds-rust v passed =
     let number : (j : ℕ) → j < 0 + count v → NumberBox (pointBox (vertexAt v j)) = λ j l. let e = edge-numbers v passed j (omega arith) in record { min = e .a; max = e .a } in
     let N = every-run (λ p. NumberBox (pointBox p)) (vertexAt v) 0 (count v) number in
-    let s = same-fold pointBox (vertices v) emptyBox emptyBox N (same-self emptyBox nowhere-number) in
+    let s = same-fold pointBox (vertices v) emptyBox emptyBox N (same-self emptyBox empty-number) in
     subst (SameBox (boundsOf (vertices v))) (fold-corners (vertices v) emptyBox) s
 
 -- ---- location

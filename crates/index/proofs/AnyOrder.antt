@@ -13,7 +13,7 @@ use Rattle.number.proofs.Values.{held-not-nan}
 use Rattle.boundary.specs.declared.Point.{Point}
 use Rattle.boundary.specs.declared.Bounds.{Bounds}
 use Rattle.boundary.specs.Boxes.{PointOf, BoxOf, FiniteBox, SameBox, hull, hullIeee, emptyBox, pointBox}
-use Rattle.boundary.proofs.AroundLaws.{NotNan, NumberBox, around-nowhere, nowhere-number, nowhere-double, around-same, same-self, same-back, same-through, same-finite}
+use Rattle.boundary.proofs.AroundLaws.{NotNan, NumberBox, around-empty, empty-number, empty-double, around-same, same-self, same-back, same-through, same-finite}
 use Rattle.boundary.proofs.MinMaxLaws.{same-fold, fold-ieee-of}
 use Rattle.lists.specs.Lists.{In}
 use Rattle.lists.proofs.MemberLaws.{every-in}
@@ -24,13 +24,13 @@ module _ (W : ℕ → Bounds) (is : List ℕ) (N : (i : ℕ) → In i is → Num
   -- as the entries stand and in the order of their numbers: each of the two boxes is around the other
   order-same : SameBox (hullBy hull W is) (hullOf W is)
   order-same =
-      let f = folded W is emptyBox nowhere-number N in
+      let f = folded W is emptyBox empty-number N in
       around-same (hullBy hull W is) (hullOf W is) (hull-of-within W (hullBy hull W is) (f .number) is (f .each))
-      (fold-within W (hullOf W is) is emptyBox (around-nowhere (hullOf W is) (hull-of-number W is N)) (hull-of-around W is N))
+      (fold-within W (hullOf W is) is emptyBox (around-empty (hullOf W is) (hull-of-number W is N)) (hull-of-around W is N))
 
   pub hull-same : SameBox (hullBy hullIeee W is) (hullOf W is)
   hull-same =
-      let s = same-fold W is emptyBox emptyBox (every-in (λ i. NumberBox (W i)) is N) (same-self emptyBox nowhere-number) in
+      let s = same-fold W is emptyBox emptyBox (every-in (λ i. NumberBox (W i)) is N) (same-self emptyBox empty-number) in
       same-through (hullBy hullIeee W is) (hullBy hull W is) (hullOf W is) (same-back (hullBy hull W is) (hullBy hullIeee W is) s) order-same
 
 -- of one axis: the widths are level
@@ -62,5 +62,5 @@ axis-same C is l H =
     let s = hull-same W is (λ i k. spot-of NotNan (λ x h. held-not-nan h) (C i) (H i k)) in
     let U = hull-of-finite W is l (λ i k. spot-of Held (λ x h. h) (C i) (H i k)) in
     let E = every-in (λ i. BoxOf Fits (W i)) is (λ i k. spot-of Fits (λ x h. h .fits) (C i) (H i k)) in
-    let S = same-finite (hullBy hullIeee W is) (hullOf W is) s U (fold-ieee-of W Fits is emptyBox E nowhere-double) in
+    let S = same-finite (hullBy hullIeee W is) (hullOf W is) s U (fold-ieee-of W Fits is emptyBox E empty-double) in
     wider-same (hullBy hullIeee W is) (hullOf W is) s S U

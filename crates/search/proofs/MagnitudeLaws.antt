@@ -15,7 +15,7 @@ use lib.Ieee.Bits.{is-true}
 use lib.Ieee.Fits.{up-pos}
 use lib.Pow.{pow-pos}
 use Rattle.number.specs.Exact.{zeroᶠ}
-use Rattle.number.proofs.OrderLaws.{abs-neg, abs-plus}
+use Rattle.number.proofs.MagnitudeOrder.{abs-neg, abs-plus}
 use Rattle.number.specs.Root.{Plus, plus-inf, plus-fin}
 use Rattle.number.specs.Signs.{absOf}
 use Rattle.number.proofs.HypotLaws.{hypot-fits, hypot-plus}
@@ -35,7 +35,7 @@ use Rattle.boundary.proofs.BoxLaws.{around-inside}
 use Rattle.boundary.proofs.FieldLaws.{field-not-nan}
 use Rattle.distance.proofs.SearchLaws.{foot-near, near-finite, nearerStep}
 use Rattle.geometry.specs.Polygon.{boundsOf, containsOf}
-use Rattle.boundary.proofs.AroundLaws.{NotNan, NumberBox, around-self, around-through, hull-number, hull-around, nowhere-number}
+use Rattle.boundary.proofs.AroundLaws.{NotNan, NumberBox, around-self, around-through, hull-number, hull-around, empty-number}
 use Rattle.set.specs.Set.{Outline, outlineBox}
 use Rattle.search.specs.Least.{magnitudeOf}
 use Rattle.boundary.specs.Boxes.{DoubleBox}
@@ -140,7 +140,7 @@ module _ (o : Outline) (N : (i : ℕ) → i < length o → FieldValue (getD o i 
   -- its box has every vertex
   vertex-inside : (i : ℕ) → i < count o → Inside (vertexAt o i) (outlineBox o)
   unfolding boundsOf vertices
-  vertex-inside i l = boxed (vertexAt o) 0 (count o) emptyBox nowhere-number number .inside i (omega arith) (omega arith)
+  vertex-inside i l = boxed (vertexAt o) 0 (count o) emptyBox empty-number number .inside i (omega arith) (omega arith)
     where
       number : (j : ℕ) → j < 0 + count o → PointOf NotNan (vertexAt o j)
       number j h = let v = vertex-field j (omega arith) in record { x = field-not-nan (v .x); y = field-not-nan (v .y) }
