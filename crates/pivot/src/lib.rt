@@ -63,23 +63,13 @@ fn parted_in(keys: &[f64], v: f64, part: &mut [u32]) -> usize
     a
 }
 
-// How many items have the key v.
-fn same(keys: &[f64], v: f64, part: &[u32]) -> usize {
+// How many items have keys below v, or where `level` is set at most v.
+fn up_to(keys: &[f64], v: f64, part: &[u32], level: bool) -> usize {
     let mut a: usize = 0;
     let mut i: usize = 0;
     while i < part.len() {
-        a += bit(key_of(keys, lists::at(part, i)) == v);
-        i += 1;
-    }
-    a
-}
-
-// How many items have keys below v.
-fn below(keys: &[f64], v: f64, part: &[u32]) -> usize {
-    let mut a: usize = 0;
-    let mut i: usize = 0;
-    while i < part.len() {
-        a += bit(key_of(keys, lists::at(part, i)) < v);
+        let k = key_of(keys, lists::at(part, i));
+        a += bit((k < v) | (level & (k == v)));
         i += 1;
     }
     a
@@ -182,7 +172,7 @@ fn with_ties(keys: &[f64], part: &[u32], r: usize, v: f64, g: f64) -> Found {
     if g < v {
         return Found { key: v, ties: 0 };
     }
-    let c = below(keys, v, part);
+    let c = up_to(keys, v, part, false);
     if c < r {
         return Found {
             key: v,
@@ -266,10 +256,9 @@ fn reached(keys: &[f64], v: f64, part: &[u32], k: usize, r: usize, own: bool) ->
         return r == k;
     }
     if own {
-        r - k < same(keys, v, part)
-    } else {
-        false
+        return r < up_to(keys, v, part, true);
     }
+    false
 }
 
 // The item of rank r of those in part, whose keys lie in l to h, in so many rounds at most.

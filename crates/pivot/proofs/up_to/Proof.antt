@@ -1,15 +1,15 @@
--- `pivot::below` meets its contract. Assumes nothing.
+-- `pivot::up_to` meets its contract. Assumes nothing.
 use Prim.Native.Nat.{_-_, _≤_}
 use lib.ListN.{length}
 use borrow.Author.Needs.{needs}
-use Rattle.pivot.proofs.below.Statement.{statement}
-use Rattle.pivot.proofs.below.Tie as tie
+use Rattle.pivot.proofs.up_to.Statement.{statement}
+use Rattle.pivot.proofs.up_to.Tie as tie
 
 abbrev Inv-loop : tie.InvT-loop
-Inv-loop keys v part a₀ i₀ a i = a ≤ i
+Inv-loop keys v part level a₀ i₀ a i = a ≤ i
 
 abbrev μ-loop : tie.MeasureT-loop
-μ-loop keys v part a₀ i₀ a i = length part - i
+μ-loop keys v part level a₀ i₀ a i = length part - i
 
 loop-holds : tie.Need-loop-holds Inv-loop μ-loop
 loop-holds c = search needs
@@ -38,8 +38,8 @@ loop-again c = search needs
 returns : tie.Need-returns Inv-loop μ-loop
 returns c = search needs
 
-pub below-spec : {M : Type 1} → statement M
-below-spec =
+pub up-to-spec : {M : Type 1} → statement M
+up-to-spec =
     tie.close
     (tie.spec
     Inv-loop
