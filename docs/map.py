@@ -300,7 +300,7 @@ def picture(deps):
     tall = 60 + 80 * len(rows)
     out = [f'<svg xmlns="http://www.w3.org/2000/svg" viewBox="0 0 {wide} {tall}" font-family="sans-serif" font-size="14">',
            f'<rect width="{wide}" height="{tall}" fill="white"/>',
-           f'<text x="12" y="22">{len(deps)} crates in {len(rows)} layers; a line goes up to what rests on a crate and on no other that does</text>']
+           f'<text x="12" y="22">{len(deps)} crates in {len(rows)} layers; a line goes down to what a crate rests on, where no other line implies it</text>']
     for c in deps:
         for d in sorted(direct[c]):
             (x, y), (u, v) = place[c], place[d]

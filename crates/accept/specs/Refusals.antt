@@ -1,5 +1,5 @@
 -- A test after those before it, what stands given a test, and the tests of an outline in document 01's order, each over the whole outline before the next. Definitions only.
-use mathlib.Core.Bool.{Bool, not, _&&_, cond}
+use mathlib.Core.Bool.{Bool, not, cond}
 use mathlib.Core.List.{List}
 use Prim.Native.Nat.{ℕ, _%_}
 use lib.Dec.{eqb, ltb}
@@ -7,10 +7,9 @@ use lib.ListN.{length}
 use lib.Ieee.{Float, neg, lt, le, eq}
 use lib.Ieee.Scale.{finite}
 use Rattle.number.specs.Exact.{zeroᶠ}
-use Rattle.boundary.specs.declared.Point.{Point}
 use Rattle.boundary.specs.Boxes.{inField}
 use Rattle.lists.specs.Lists.{any}
-use Rattle.boundary.specs.Outline.{count, edges}
+use Rattle.boundary.specs.Outline.{count, samePoint, edges}
 use Rattle.accept.specs.declared.Refusal.{Refusal}
 use Rattle.accept.specs.declared.Refusal.the-variants.{OddCount, BadCounts, TooFew, TooMany, NotFinite, OutsideField, EqualNeighbours, ZeroArea, NegativeArea, BadPoint, BadBox, BadEllipse, ShortBuffer, LongList}
 use Rattle.accept.specs.declared.Test.{Test}
@@ -46,10 +45,6 @@ Passed refusing r when fails = cond fails (Failed r) Passed
 unfoldable pub given : {A : Type 0} → Test → A → (Refusal → A) → A
 given Passed a refused = a
 given (Failed r) a refused = refused r
-
--- two points are equal; zeros of either sign are
-abbrev pub samePoint : Point → Point → Bool
-samePoint a b = eq (a .x) (b .x) && eq (a .y) (b .y)
 
 -- ---- what an outline does not pass
 -- 5: a number is not finite

@@ -7,12 +7,12 @@ ghost use lib.Ieee.{Float, binary64, add, div};
 ghost use lib.Ieee.Scale.{finite};
 ghost use Rattle.boundary.specs.Boxes.{inField, pointInField, boxFits};
 ghost use Rattle.lists.specs.Lists.{any};
-ghost use Rattle.boundary.specs.Outline.{edges};
+ghost use Rattle.boundary.specs.Outline.{samePoint, edges};
 ghost use Rattle.accept.specs.declared.Refusal.the-variants.{NegativeArea};
 ghost use Rattle.accept.specs.declared.Test.{Test};
 ghost use Rattle.accept.specs.Area.{shoelaceTerm, two, areaOf};
 ghost use Rattle.accept.specs.declared.Verdict.the-variants.{Area, TurnedAway};
-ghost use Rattle.accept.specs.Refusals.{_refusing_when_, given, number, samePoint, negativeArea, equalNeighbours, valuesTested, shapeTested, outlineTested};
+ghost use Rattle.accept.specs.Refusals.{_refusing_when_, given, number, negativeArea, equalNeighbours, valuesTested, shapeTested, outlineTested};
 ghost use Rattle.accept.specs.Verdicts.{edgesVerdict, testOf};
 use crate::Refusal;
 use crate::Test;
@@ -20,6 +20,7 @@ use crate::Verdict;
 use boundary::Bounds;
 use boundary::Edge;
 use boundary::Point;
+use boundary::same_point;
 
 const LIMIT: f64 = 1048576.0;
 
@@ -72,12 +73,6 @@ pub fn box_fits(b: Bounds) -> bool
     let upper = in_field(b.max.x)
         & (in_field(b.max.y) & ((b.min.x <= b.max.x) & (b.min.y <= b.max.y)));
     in_field(b.min.x) & (in_field(b.min.y) & upper)
-}
-
-pub fn same_point(a: Point, b: Point) -> bool
-    ensures { λ r. ⌜ r ≡ samePoint a b ⌝ }
-{
-    (a.x == b.x) & (a.y == b.y)
 }
 
 // Whether x passes test 5, where that is all that is asked; else test 6.

@@ -160,9 +160,6 @@ absℤ x = pos (natAbs x)
 pub abs-mul : (x y : ℤ) → absℤ (x *ℤ y) ≡ absℤ x *ℤ absℤ y
 abs-mul x y = ap pos (natAbs-mul x y)
 
-pub abs-add : (x y : ℤ) → absℤ (x +ℤ y) ≦ absℤ x +ℤ absℤ y
-abs-add x y = omega (ord, natAbs-add x y)
-
 -- |x| ≤ e, as the two bounds. A record, so that x and e are inferred from a proof of it
 pub record Within (x e : ℤ) : Type 0 where
   pub low : negℤ e ≦ x

@@ -5,7 +5,7 @@ pub mod line;
 ghost use mathlib.Core.Path.{_≡_};
 ghost use Prim.Native.Nat.{_<_};
 ghost use Rattle.boundary.specs.Boxes.{lesser, greater};
-ghost use Rattle.boundary.specs.Outline.{count, after, vertexAt, edgeAt, edges};
+ghost use Rattle.boundary.specs.Outline.{count, after, vertexAt, samePoint, edgeAt, edges};
 ghost use Rattle.boundary.specs.Line.{middle};
 ghost use Rattle.boundary.specs.Length.{edgeLength, lengthOf};
 
@@ -51,6 +51,13 @@ pub fn vertex_at(v: &[f64], i: usize) -> Point
         x: v[2 * i],
         y: v[2 * i + 1],
     }
+}
+
+// Whether two points are equal; zeros of either sign are.
+pub fn same_point(p: Point, q: Point) -> bool
+    ensures { λ r. ⌜ r ≡ samePoint p q ⌝ }
+{
+    (p.x == q.x) & (p.y == q.y)
 }
 
 // The number of the vertex after vertex i of n.

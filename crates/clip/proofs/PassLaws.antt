@@ -2,7 +2,7 @@
 use mathlib.Core.Path.{_≡_, refl, sym, ap, _∙_}
 use mathlib.Core.List.{List, [], _∷_, _++_, append-assoc, append-nil, flatMap}
 use mathlib.Core.Bool.{Bool, true, false, not, _&&_, _||_, cond, true≢false}
-use Prim.Native.Nat.{ℕ, suc, _+_, _-_, _<_}
+use Prim.Native.Nat.{ℕ, suc, _<_}
 use native.Mathlib.Omega.{arith}
 use lib.ListN.{length, take, drop}
 use lib.Ieee.{Float, eq}
@@ -11,11 +11,12 @@ use Rattle.boundary.specs.declared.Edge.{Edge}
 use Rattle.lists.specs.Lists.{fold, any}
 use Rattle.boundary.specs.Line.{alongOf}
 use Rattle.number.specs.Exact.{zeroᶠ, one}
+use Rattle.boundary.specs.Outline.{samePoint}
 use Rattle.clip.specs.declared.HalfPlane.{HalfPlane}
 use Rattle.clip.specs.declared.Marks.{Marks}
 use Rattle.clip.specs.Clip.{pointAlong, coordOf, inHalfPlane, crossing, crosses, Part, partOf, partsOf, parts, lead, lastKept, rotated, keptLines, joint, onward, joined, clipOf}
-use Rattle.clip.specs.Passes.{markAt, uncutOf, marksBetween, marksOf, firstPart, lastPart, comesIn, startLine, Path, samePlace, if-on, lineBetween, followed, stepOf, nothing, closedPath, traced}
-use Rattle.lists.proofs.FoldLaws.{fold-append}
+use Rattle.clip.specs.Passes.{markAt, uncutOf, marksBetween, marksOf, firstPart, lastPart, comesIn, startLine, Path, if-on, lineBetween, followed, stepOf, nothing, closedPath, traced}
+use Rattle.lists.proofs.FoldLaws.{any-from, any-append, fold-append}
 
 -- ---- the parts of one line
 abbrev blocks : Bool → Bool → Bool → Edge → Edge → List Part
@@ -57,20 +58,6 @@ unfolding marksOf marksBetween uncutOf crosses
 whole s e = two-whole (crosses s e) (crossing s e) _ _ _
 
 -- ---- whether some part has a mark
-or-assoc : (a b c : Bool) → (a || b) || c ≡ a || (b || c)
-or-assoc true b c = refl
-or-assoc false b c = refl
-
-fold-or : {A : Type 0} (p : A → Bool) (b : Bool) (xs : List A) → fold (λ c x. c || p x) b xs ≡ b || any p xs
-unfolding fold any
-fold-or p true [] = refl
-fold-or p false [] = refl
-fold-or p b (x ∷ xs) = fold-or p (b || p x) xs ∙ or-assoc b (p x) (any p xs) ∙ ap (λ c. b || c) (sym (fold-or p (p x) xs))
-
-any-append : {A : Type 0} (p : A → Bool) (xs ys : List A) → any p (xs ++ ys) ≡ any p xs || any p ys
-unfolding any
-any-append p xs ys = fold-append (λ c x. c || p x) false xs ys ∙ fold-or p (any p xs) ys
-
 -- of a line: where its first or its last part has it
 any-blocks : (q : Bool → Bool) (x y : Edge) (c f a : Bool) → (c ≡ false → a ≡ f) → any (λ p. q (p .kept)) (blocks c f a x y) ≡ q f || q a
 unfolding any fold
@@ -109,7 +96,7 @@ none-last [] h = refl
 none-last (p ∷ ps) h = by (p .kept) h (none-last ps)
   where
     by : (b : Bool) → fold (λ c x. c || x .kept) b ps ≡ false → (any (λ p. p .kept) ps ≡ false → last-from false ps ≡ false) → last-from b ps ≡ false
-    by true k rest = absurd (true≢false (sym (fold-or (λ p. p .kept) true ps) ∙ k))
+    by true k rest = absurd (true≢false (sym (any-from (λ p. p .kept) true ps) ∙ k))
     by false k rest = rest k
 
 -- where the last is kept, there is one
@@ -258,9 +245,9 @@ module _ (s : HalfPlane) where
       ∙ sym (ap (fold write t) (ap keptLines (parts-cons s e es) ∙ kept-append ps (parts s es)))
 
 -- closed, it is the joined lines
-if-joint : (p q : Point) → if-on (not (samePlace p q)) (lineBetween p q) ≡ joint p q
+if-joint : (p q : Point) → if-on (not (samePoint p q)) (lineBetween p q) ≡ joint p q
 unfolding joint
-if-joint p q = by (samePlace p q)
+if-joint p q = by (samePoint p q)
   where
     by : (b : Bool) → cond (not b) (lineBetween p q ∷ []) [] ≡ cond b [] (lineBetween p q ∷ [])
     by true = refl
@@ -270,7 +257,7 @@ closed-onward : (start last : Point) (out es : List Edge) → closedPath (fold w
 unfolding closedPath fold write followed onward
 closed-onward start last out [] = rw (if-joint last start)
 closed-onward start last out (e ∷ es) =
-    closed-onward start (e .b) ((out ++ if-on (not (samePlace last (e .a))) (lineBetween last (e .a))) ++ (e ∷ [])) es ∙ rw (if-joint last (e .a)) (simp append-assoc)
+    closed-onward start (e .b) ((out ++ if-on (not (samePoint last (e .a))) (lineBetween last (e .a))) ++ (e ∷ [])) es ∙ rw (if-joint last (e .a)) (simp append-assoc)
 
 closed-joined : (es : List Edge) → closedPath (fold write nothing es) ≡ joined es
 unfolding closedPath fold write followed joined

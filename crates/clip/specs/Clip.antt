@@ -3,11 +3,12 @@ use mathlib.Core.Bool.{Bool, false, not, _&&_, cond}
 use mathlib.Core.List.{List, [], _∷_, _++_, flatMap}
 use Prim.Native.Nat.{ℕ, suc}
 use lib.ListN.{take, drop}
-use lib.Ieee.{Float, binary64, add, sub, mul, div, lt, le, eq, ne}
+use lib.Ieee.{Float, binary64, add, sub, mul, div, lt, le, ne}
 use Rattle.number.specs.Exact.{zeroᶠ, one}
 use Rattle.boundary.specs.declared.Point.{Point}
 use Rattle.boundary.specs.declared.Edge.{Edge}
 use Rattle.lists.specs.Lists.{fold, any}
+use Rattle.boundary.specs.Outline.{samePoint}
 use Rattle.boundary.specs.Line.{alongOf}
 use Rattle.boundary.specs.Line.{half}
 use Rattle.clip.specs.declared.HalfPlane.{HalfPlane}
@@ -73,7 +74,7 @@ keptLines ps = flatMap (λ p. cond (p .kept) (p .line ∷ []) []) ps
 -- ---- lines joined
 -- the line from p to q, where they differ
 unfoldable pub joint : Point → Point → List Edge
-joint p q = cond (eq (p .x) (q .x) && eq (p .y) (q .y)) [] (record { a = p; b = q } ∷ [])
+joint p q = cond (samePoint p q) [] (record { a = p; b = q } ∷ [])
 
 -- on from `last`: each line after the joint to it, and at the end the joint to `start`
 unfoldable pub onward : Point → Point → List Edge → List Edge

@@ -3,11 +3,12 @@ use mathlib.Core.Bool.{Bool, true, false, not, _&&_, _||_, cond}
 use mathlib.Core.List.{List, [], _∷_, _++_}
 use Prim.Native.Nat.{ℕ, suc}
 use lib.Dec.{eqb}
-use lib.Ieee.{Float, binary64, add, sub, mul, div, lt, le, eq, ne}
+use lib.Ieee.{Float, binary64, add, sub, mul, div, lt, le, ne}
 use Rattle.number.specs.Exact.{zeroᶠ, one}
 use Rattle.boundary.specs.declared.Point.{Point}
 use Rattle.boundary.specs.declared.Edge.{Edge}
 use Rattle.lists.specs.Lists.{fold}
+use Rattle.boundary.specs.Outline.{samePoint}
 use Rattle.boundary.specs.Line.{alongOf}
 use Rattle.boundary.specs.Line.{half}
 use Rattle.clip.specs.declared.HalfPlane.{HalfPlane}
@@ -73,9 +74,6 @@ pub record Path : Type 0 where
   pub ends : PathEnds
   pub out : List Edge
 
-abbrev pub samePlace : Point → Point → Bool
-samePlace p q = eq (p .x) (q .x) && eq (p .y) (q .y)
-
 -- a line that is written or not
 abbrev pub if-on : Bool → Edge → List Edge
 if-on on e = cond on (e ∷ []) []
@@ -85,7 +83,7 @@ lineBetween p q = record { a = p; b = q }
 
 -- a joint is needed: the path has begun, and ends elsewhere than at q
 abbrev pub joinsOf : PathEnds → Point → Bool
-joinsOf p q = not (eqb (p .begun) 0) && not (samePlace (p .last) q)
+joinsOf p q = not (eqb (p .begun) 0) && not (samePoint (p .last) q)
 
 abbrev pub movedOf : PathEnds → Edge → PathEnds
 movedOf p e = record { begun = 1; start = record { x = cond (eqb (p .begun) 0) (e .a .x) (p .start .x); y = cond (eqb (p .begun) 0) (e .a .y) (p .start .y) }; last = e .b }

@@ -6,7 +6,7 @@ ghost use Prim.Native.Nat.{_+_, _-_, _*_, _<_, _≤_};
 ghost use lib.ListN.{length};
 ghost use Rattle.boundary.specs.declared.Edge.{Edge};
 ghost use Rattle.lists.specs.Lists.{fold};
-ghost use Rattle.clip.specs.Passes.{Path, samePlace, if-on, lineBetween, joinsOf, movedOf, followed, stepOf, unbegun, traced};
+ghost use Rattle.clip.specs.Passes.{Path, if-on, lineBetween, joinsOf, movedOf, followed, stepOf, unbegun, traced};
 ghost use Rattle.clip.specs.Lent.{lineAt, linesFrom, putAt, disjoint, Beside, Holds, Tracks};
 use crate::HalfPlane;
 use crate::PathEnds;
@@ -15,6 +15,7 @@ use crate::parts;
 use crate::scan;
 use boundary::Edge;
 use boundary::Point;
+use boundary::same_point;
 use number::signs::pick;
 
 fn put(w: &mut [f64], o: usize, e: Edge)
@@ -43,17 +44,11 @@ pub fn emit(w: &mut [f64], to: usize, room: usize, at: usize, e: Edge, on: bool)
     at + 1
 }
 
-fn same_place(p: Point, q: Point) -> bool
-    ensures { λ r. ⌜ r ≡ samePlace p q ⌝ }
-{
-    (p.x == q.x) & (p.y == q.y)
-}
-
 // Whether a joint is needed from the path's end to q.
 fn joins(p: PathEnds, q: Point) -> bool
     ensures { λ r. ⌜ r ≡ joinsOf p q ⌝ }
 {
-    (p.begun != 0) & !same_place(p.last, q)
+    (p.begun != 0) & !same_point(p.last, q)
 }
 
 fn line(p: Point, q: Point) -> Edge

@@ -22,6 +22,7 @@ use Rattle.number.proofs.Operations.{zero-is, neg-is}
 use Rattle.number.proofs.Compare.{lt-is, is-lt, not-lt, →eq}
 use Rattle.boundary.specs.declared.Point.{Point}
 use Rattle.boundary.specs.declared.Edge.{Edge}
+use Rattle.boundary.specs.Outline.{samePoint}
 use Rattle.boundary.specs.declared.Near.{Near}
 use Rattle.boundary.specs.declared.Distance.{Distance}
 use Rattle.lists.specs.Lists.{fold, any, Every, Some}
@@ -29,7 +30,6 @@ use Rattle.boundary.specs.Line.{lineNear}
 use Rattle.distance.specs.Piece.{pieceNear}
 use Rattle.distance.specs.Nearest.{nearer, farAway, nearestOf, roundingOf, flipped, signedOf}
 use Rattle.geometry.specs.Polygon.{containsOf}
-use Rattle.accept.specs.Refusals.{samePoint}
 use Rattle.grid.specs.Whole.{PointZ, EdgeZ, onEdgeZ, boundaryZ, insideZ, locationZ}
 use Rattle.exact.specs.Grid.{PointOn, EdgeOn, EdgesOn}
 use Rattle.lists.specs.Lists.Each.{none, more}

@@ -21,14 +21,14 @@ use Rattle.number.proofs.Compare.{lt-false, is-lt, not-lt, eq-false, lt-is, eq-
 use Rattle.boundary.specs.declared.Point.{Point}
 use Rattle.boundary.specs.declared.Edge.{Edge}
 use Rattle.lists.specs.Lists.{any, atFront, Each}
-use Rattle.boundary.specs.Outline.{count, vertexAt, vertices, edges}
+use Rattle.boundary.specs.Outline.{samePoint, count, vertexAt, vertices, edges}
 use Rattle.accept.specs.declared.Test.{Test}
 use Rattle.accept.specs.declared.Test.the-variants.{Passed, Failed}
 use Rattle.accept.specs.declared.Answer.{Answer}
 use Rattle.accept.specs.declared.Answer.the-variants.{Count}
 use Rattle.accept.specs.declared.Refusal.the-variants.{ShortBuffer}
 use Rattle.accept.specs.Area.{areaOf}
-use Rattle.accept.specs.Refusals.{given, samePoint, negativeArea, shapeTested, outlineTested}
+use Rattle.accept.specs.Refusals.{given, negativeArea, shapeTested, outlineTested}
 use Rattle.accept.specs.Answers.{Outcome, refusedWith}
 use Rattle.geometry.specs.Making.{kept, keptCount, coordinatesOf, turned, makeTested, madeOf, makeOutcome}
 use Rattle.grid.specs.Grid.{OutlineOn}

@@ -6,13 +6,13 @@ use lib.Dec.{ltb}
 use lib.ListN.{length, take}
 use lib.Ieee.{Float}
 use Rattle.boundary.specs.declared.Point.{Point}
-use Rattle.boundary.specs.Outline.{count, vertexAt, vertices}
+use Rattle.boundary.specs.Outline.{count, vertexAt, samePoint, vertices}
 use Rattle.accept.specs.declared.Answer.{Answer}
 use Rattle.accept.specs.declared.Answer.the-variants.{Count}
 use Rattle.accept.specs.declared.CountFields.{CountFields}
 use Rattle.accept.specs.declared.Refusal.the-variants.{ShortBuffer}
 use Rattle.accept.specs.declared.Test.{Test}
-use Rattle.accept.specs.Refusals.{_refusing_when_, given, samePoint, negativeArea, shapeTested}
+use Rattle.accept.specs.Refusals.{_refusing_when_, given, negativeArea, shapeTested}
 use Rattle.accept.specs.Answers.{countFields, Outcome, refusedWith, inFields}
 use Rattle.lists.specs.Lists.{atFront}
 

@@ -189,7 +189,7 @@ fn kept_count(v: &[f64]) -> usize
     if n <= 1 {
         return v.len();
     }
-    if refusals::same_point(boundary::vertex_at(v, 0), boundary::vertex_at(v, n - 1)) {
+    if boundary::same_point(boundary::vertex_at(v, 0), boundary::vertex_at(v, n - 1)) {
         return v.len() - 2;
     }
     v.len()

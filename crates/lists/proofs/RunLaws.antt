@@ -3,10 +3,9 @@ use mathlib.Core.Path.{_≡_, refl, ap, _∙_}
 use mathlib.Core.List.{List, [], _∷_, _++_, reverse, reverse-cons}
 use Prim.Native.Nat.{ℕ, zero, suc, _+_, _-_, _≤_, _<_}
 use native.Mathlib.Nat.{add-zero}
-use native.Mathlib.Numerals.{add-one}
 use native.Mathlib.Omega.{arith}
-use lib.ListN.{length, getD, set, take, drop}
-use lib.Seq.{take-at, drop-at, take-suc-set}
+use lib.ListN.{length, getD, take, drop}
+use lib.Seq.{take-at, drop-at}
 use Rattle.lists.specs.Lists.{run}
 
 pub run-at : {A : Type 0} (g : ℕ → A) (i k j : ℕ) (d : A) → j < k → getD (run g i k) j d ≡ g (i + j)
@@ -67,9 +66,3 @@ module _ {A : Type 0} where
 
   pub drop-run : (f : ℕ → A) (j n : ℕ) → j ≤ n → drop j (run f 0 n) ≡ run f j (n - j)
   drop-run f j n l = rw (run-split f j n l) (drop-at (run f 0 j) (run f j (n - j)) j (length-run f 0 j))
-
--- the run g 0, g 1, .. at the front of a list, written one by one
-pub listed-more : {A : Type 0} (g : ℕ → A) (xs : List A) (i : ℕ) (x : A) → i < length xs → x ≡ g i → take i xs ≡ run g 0 i → take (i + 1) (set xs i x) ≡ run g 0 (i + 1)
-listed-more g xs i x h ex e =
-    let z : 0 + i ≡ i = omega arith in
-    rw (add-one i, take-suc-set xs i x h, e, ex, run-last g 0 i, z)

@@ -94,6 +94,10 @@ parity-le c zero l hi = omega arith
 parity-le c (suc zero) l hi = omega arith
 parity-le c (suc (suc p)) l hi = omega arith
 
+-- c, or twice c, has 53 or 54 digits
+pub digits-le : {c : ℕ} (w : ℕ) → c < 2 ^ 53 → c * (1 + w % 2) ≤ 2 ^ 54 - 2
+digits-le {c} w hi = parity-le c (w % 2) (omega arith) hi
+
 pub root-is : (c w q : ℕ) → 2 ^ 52 ≤ c → c < 2 ^ 53 → 2 ≤ w → w ≤ 2119 → NearestWhole (c * (1 + w % 2)) q → ofBits binary64 ((w / 2 + 474) * 2 ^ 52 + q) ≡ rootOf (c * 2 ^ (w + 52))
 root-is c w q lo hi W X h = go (w / 2) refl
   where

@@ -3,18 +3,17 @@ use mathlib.Core.Path.{_≡_, refl, sym, ap, ap₂, _∙_, subst}
 use mathlib.Core.Logic.{_⊎_, inl, inr, ⊎-elim}
 use mathlib.Core.List.{[], _∷_}
 use mathlib.Core.Bool.{Bool, true, false, not, cond, Bool·beq}
-use Prim.Native.Nat.{ℕ, zero, suc, _+_, _-_, _*_, _/_, _%_, _^_, _≤_, _<_, zero-le, compare, Ordering, Ordering·lt, Ordering·eq, Ordering·gt}
-use native.Mathlib.Nat.{le-trans, le-of-eq, lt-of-lt-of-le, lt-of-le-of-lt, lt-of-not-le, lt-irrefl, mul-assoc, mul-comm, mul-one, one-mul, mul-pos, mul-le-mul-right, div-add-mod', div-mul-le-self, mod-lt, eq-or-lt-of-le, eq-zero-or-pos, pow-succ'}
+use Prim.Native.Nat.{ℕ, zero, suc, _+_, _-_, _*_, _/_, _^_, _≤_, _<_, zero-le}
+use native.Mathlib.Nat.{le-trans, le-of-eq, lt-of-lt-of-le, lt-of-le-of-lt, lt-of-not-le, lt-irrefl, mul-assoc, mul-comm, mul-one, one-mul, mul-pos, mul-le-mul-right, div-mul-le-self, eq-or-lt-of-le, eq-zero-or-pos, pow-succ'}
 use native.Mathlib.Decide.{decLe}
 use native.Mathlib.Omega.{arith}
-use lib.Dec.{T, isLe, isEq, ltb, eqb, leb→le, nleb→lt, eqb→eq, lit≤, lit<}
+use lib.Dec.{T, ltb, eqb, lit≤, lit<}
 use lib.IntN.{ℤ, pos, negℤ, natAbs, _+ℤ_, _-ℤ_, _*ℤ_, negℤ-negℤ, *ℤ-comm}
 use lib.Pow.{pow-add, pow-pos, pow-mono, shl-lt}
-use lib.Ieee.{Float, nan, inf, fin, Format, binary64, prec, emax, low, up, down, unlike, size, nearest, odd, units, round, div, neg, le}
+use lib.Ieee.{Float, nan, inf, fin, Format, binary64, prec, emax, low, up, down, unlike, size, odd, units, round, div, neg, le}
 use lib.Ieee.Digits.{size-reaches, back}
 use lib.Ieee.Fits.{round-is}
 use lib.Ieee.Exact.{HasValue, units-val, round-exact}
-use lib.Ieee.Nearest.{closest}
 use lib.Ieee.Order.{drop, kept, round-mono}
 use lib.Ieee.Scale.{round-same, grid}
 use Rattle.algebra.specs.Quote.{quote, ring}
@@ -26,6 +25,7 @@ use Rattle.algebra.specs.Mono.{mul-mono, mul-cancel, within-mul, within-cancel}
 use Rattle.algebra.specs.Sign.{signed, natAbs-signed, neg-signed, mul-signed-pos}
 use Rattle.number.specs.Exact.{Is}
 use Rattle.number.specs.Rounding.{Rounds, Rounded, Result}
+use Rattle.number.proofs.Units.{closest-near}
 use Rattle.number.proofs.Compare.{HasSign, le-is, le-of-signs, le-neg}
 
 -- ---- exact: at most 53 digits, and no part of 2 ^ -1074
@@ -240,19 +240,6 @@ rounded-nonpos {R} {n} {c} C r N = subst (λ (v : ℤ). v ≦ pos 0) (negℤ-neg
 
 -- ---- what `round` gives, in units of 2 ^ -1074
 
--- a fraction of the whole part w and the remainder r / d is within a half of the whole number nearest to it
-nearest-half : (o : Ordering) (w r d : ℕ) → r < d → (T (isLe o) → r * 2 ≤ d) → (T (not (isLe o)) → d < r * 2) → (T (isEq o) → r * 2 ≡ d)
-    → (2 * (w * d + r) ≤ 2 * (nearest w o * d) + d) × (2 * (nearest w o * d) ≤ 2 * (w * d + r) + d)
-nearest-half Ordering·lt w r d l a b e = let h = a tt in (omega arith, omega arith)
-nearest-half Ordering·eq w r d l a b e = let h = e tt in let p : w % 2 * d ≤ 1 * d = mul-le-mul-right d (omega arith) in (omega arith, omega arith)
-nearest-half Ordering·gt w r d l a b e = let h = b tt in (omega arith, omega arith)
-
-closest-half : (n d : ℕ) → 0 < d → (2 * n ≤ 2 * (closest n d * d) + d) × (2 * (closest n d * d) ≤ 2 * n + d)
-closest-half n d D =
-    let r = n % d * 2 in
-    subst (λ (v : ℕ). (2 * v ≤ 2 * (closest n d * d) + d) × (2 * (closest n d * d) ≤ 2 * v + d)) (div-add-mod' n d)
-    (nearest-half (compare r d) (n / d) (n % d) d (mod-lt n D) (leb→le r d) (nleb→lt r d) (eqb→eq r d))
-
 -- q is within a half of n / (c p), so q p is within half of p of n / c
 multiple-near : (q p c n : ℕ) → (2 * n ≤ 2 * (q * (c * p)) + c * p) × (2 * (q * (c * p)) ≤ 2 * n + c * p) → Within (pos 2 *ℤ (pos (q * p) *ℤ pos c -ℤ pos n)) (pos p *ℤ pos c)
 multiple-near q p c n h = let ρ = pos q ∷ pos p ∷ pos c ∷ pos n ∷ [] in record {
@@ -262,7 +249,7 @@ multiple-near q p c n h = let ρ = pos q ∷ pos p ∷ pos c ∷ pos n ∷ [] in
 
 -- a / c rounded, in units, is lib.Ieee's `grid`
 grid-rounded : (a c : ℕ) → 0 < c → Rounded (pos (grid binary64 a c)) (pos (a * 2 ^ 1074)) (pos c)
-grid-rounded a c C = record { k = k; near = multiple-near (kept 53 n c) (2 ^ k) c n (closest-half n (c * 2 ^ k) (mul-pos C (pow-pos k))); size = ⊎-elim inl (λ l. inr (pos-le (full l))) (dropped (size (n / c))) }
+grid-rounded a c C = record { k = k; near = multiple-near (kept 53 n c) (2 ^ k) c n (closest-near n (c * 2 ^ k) (mul-pos C (pow-pos k))); size = ⊎-elim inl (λ l. inr (pos-le (full l))) (dropped (size (n / c))) }
   where
     n : ℕ
     n = a * 2 ^ 1074

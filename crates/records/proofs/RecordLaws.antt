@@ -26,7 +26,8 @@ use Rattle.nodes.specs.Layout.{nodeOf, nodesOf, cornersOf, linksOf}
 use Rattle.index.specs.declared.BuildFields.{BuildFields}
 use Rattle.index.specs.Buffer.{IndexBuffer, shortSizes, holding, grown}
 use Rattle.index.specs.Answers.{boxesTested}
-use Rattle.index.proofs.GrowLaws.{boxes-passed, index-nodes, length-index-items, grown-nodes, grown-lent}
+use Rattle.index.proofs.IndexCovers.{nodes-511}
+use Rattle.index.proofs.GrowLaws.{length-index-items, grown-nodes, grown-lent}
 use Rattle.index.proofs.ReadLaws.{NodeIs, node-is}
 use Rattle.records.specs.declared.Recording.{Recording}
 use Rattle.records.specs.Records.{nodeIn, blankNode, blankNodes, nodesTested, NodesLent, nodesCall, recording, RecordsLent, recordsOutcome}
@@ -100,9 +101,6 @@ module _ (v : List Float) (n i : ℕ) where
 pub short-none : (c l i : ℕ) → 2044 ≤ c → 1022 ≤ l → 1024 ≤ i → shortSizes c l i ≡ false
 short-none c l i p q r = rw (le-ltb c 2044 p, le-ltb l 1022 q, le-ltb i 1024 r)
 
-pub few-nodes : (v : List Float) → boxesTested v ≡ Passed → length (nodesOf (indexOf v)) ≤ 511
-few-nodes v p = let s = boxes-passed v p .0 in index-nodes v (omega arith)
-
 -- ---- all that `records` leaves
 module _ (v : List Float) (room : ℕ) (I : List ℕ) where
   pub records-passed : {t : Test} {r : Recording} {I′ : List ℕ} → t ≡ nodesTested v room (length I) → t ≡ Passed
@@ -125,7 +123,7 @@ module _ (v : List Float) (room : ℕ) (I : List ℕ) where
   count-fits c Passed tested e =
       let p = nodes-passed v room (length I) tested refl in
       let s = p .1 in
-      let few = few-nodes v (p .0) in
+      let few = nodes-511 v (p .0) in
       (omega arith, omega arith)
   count-fits c (Failed r) tested e = (omega arith, omega arith)
 

@@ -15,7 +15,7 @@ use Rattle.sorts.specs.Keys.{precedes}
 use Rattle.lists.proofs.MemberLaws.{times-append}
 use Rattle.sorts.proofs.SortLaws.{length-sort, times-sort}
 use Rattle.sorts.proofs.Order.{goes-total, goes-trans, goes-antisym}
-use Rattle.sorts.proofs.PartLaws.{sort-apart, sort-inside, sorted-sort, leb-total, leb-trans, leb-antisym, ascend-again}
+use Rattle.sorts.proofs.PartLaws.{sort-apart, sort-inside, sorted-sort, ascend-again}
 
 -- ---- lists of the same members
 -- what stands before x in the list, and what after it
@@ -66,9 +66,6 @@ module _ (le : ℕ → ℕ → Bool)
       let al = f .before in
       let bl = f .after in
       ap (sort le) (f .whole) ∙ sort-inside le total trans antisym al x bl ∙ ap (insert le x) (sort-same xs (al ++ bl) (without x xs ys al bl (f .whole) e))
-
-pub ascend-same : (xs ys : List ℕ) → ((i : ℕ) → times i ys ≡ times i xs) → sort leb ys ≡ sort leb xs
-ascend-same = sort-same leb leb-total leb-trans leb-antisym
 
 -- ---- a sorted list is parted at each place
 each-drop : (P : ℕ → Type 0) (m : ℕ) (xs : List ℕ) → Every P xs → Every P (drop m xs)

@@ -1,6 +1,7 @@
 -- `records::records` meets its contract. Assumes nothing.
 use Rattle.index.proofs.GrowLaws.{boxes-passed}
-use Rattle.records.proofs.RecordLaws.{few-nodes, recorded-count, nodes-passed, records-passed, records-refused}
+use Rattle.index.proofs.IndexCovers.{nodes-511}
+use Rattle.records.proofs.RecordLaws.{recorded-count, nodes-passed, records-passed, records-refused}
 use borrow.Author.Needs.{needs}
 use Rattle.records.proofs.records.Statement.{statement}
 use Rattle.records.proofs.records.Tie as tie
@@ -19,7 +20,7 @@ recorded-requires c κs =
 cast-node-count : tie.Need-cast-node-count
 cast-node-count c =
     let p = nodes-passed _ _ _ (c .before .before .before .before .before .before .nodes-tested .ensures) (c .before .before .before .before .enum-told .given .1) in
-    let k = few-nodes _ (p .0) in
+    let k = nodes-511 _ (p .0) in
     let e = recorded-count _ _ (c .before .before .recorded .ensures) in
     search needs
 

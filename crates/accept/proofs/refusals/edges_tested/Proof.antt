@@ -12,10 +12,9 @@ use lib.Ieee.{Float, binary64, add, ofBits}
 use Rattle.boundary.specs.declared.Point.{Point}
 use Rattle.boundary.specs.declared.Edge.{Edge}
 use Rattle.lists.specs.Lists.{run, fold, any, total}
-use Rattle.boundary.specs.Outline.{count, vertexAt, edgeAt, edges}
+use Rattle.boundary.specs.Outline.{samePoint, count, vertexAt, edgeAt, edges}
 use Rattle.lists.proofs.FoldLaws.{fold-run-next, fold-run-end, fold-found}
 use Rattle.accept.specs.Area.{shoelaceTerm, areaOf}
-use Rattle.accept.specs.Refusals.{samePoint}
 use Rattle.accept.specs.Verdicts.{edgesVerdict}
 use Rattle.accept.proofs.refusals.edges_tested.Statement.{statement}
 use Rattle.accept.proofs.refusals.edges_tested.Tie as tie

@@ -1,23 +1,19 @@
 -- `number::root::root_of` meets its contract: where the guess passes the check, its bits are those of the root, rounded. Assumes nothing.
 use mathlib.Core.Path.{_≡_, ap, _∙_}
-use Prim.Native.Nat.{_+_, _-_, _*_, _/_, _%_, _^_, _≤_}
+use Prim.Native.Nat.{_+_, _*_, _/_, _%_, _^_}
 use native.Mathlib.Omega.{arith}
 use borrow.Author.Needs.{needs}
 use lib.Ieee.{binary64, toBits, ofBits}
 use Rattle.number.proofs.Tests.{lt-not-nan, bits-not-nan}
-use Rattle.number.proofs.NearRoot.{root-is, parity-le}
+use Rattle.number.proofs.NearRoot.{root-is, digits-le}
 use Rattle.number.proofs.root.root_of.Statement.{statement}
 use Rattle.number.proofs.root.root_of.Tie as tie
-
--- c, or twice c, has 53 or 54 digits
-d-le : (c : tie.Start) → c .args .c * (1 + c .args .w % 2) ≤ 2 ^ 54 - 2
-d-le c = parity-le (c .args .c) (c .args .w % 2) (omega arith) (c .pre .1)
 
 add-d : tie.Need-add-d
 add-d c = search needs
 
 mul-d : tie.Need-mul-d
-mul-d c = omega (arith, d-le c)
+mul-d c = omega (arith, digits-le (c .args .w) (c .pre .1))
 
 guess-requires : tie.Need-guess-requires
 guess-requires c κs = search needs
@@ -32,7 +28,7 @@ add-if2 : tie.Need-add-if2
 add-if2 c = search needs
 
 is-root-requires : tie.Need-is-root-requires
-is-root-requires c κs = omega (arith, d-le (c .before .before .before))
+is-root-requires c κs = omega (arith, digits-le (c .before .before .before .args .w) (c .before .before .before .pre .1))
 
 float-from-bits-result : tie.Need-float-from-bits-result
 float-from-bits-result c = bits-not-nan _ (omega arith)
