@@ -22,7 +22,8 @@ use Rattle.number.specs.Signs.{clampOf}
 use Rattle.number.proofs.Operations.{equation→is, zero-is, finite-is, is-held, add-rounds, sub-rounds, mul-rounds}
 use Rattle.number.proofs.RoundingLaws.{rounds-order, rounds-order-is, rounded-nonneg, rounded-nonpos}
 use Rattle.number.proofs.ExactLaws.{mul-result}
-use Rattle.number.proofs.OrderLaws.{is-order, le-self, not-below, below-le, finite-between, clamp-inside, clamp-one-of}
+use Rattle.number.proofs.OrderLaws.{is-order, le-self, not-below, below-le, finite-between}
+use Rattle.number.proofs.MagnitudeOrder.{clamp-inside, clamp-one-of}
 use Rattle.number.proofs.Values.{held-not-nan, add-grown, sub-grown, is-rounds, is-short, products-held, quotient-not-nan}
 use Rattle.number.proofs.Basics.{one-of}
 use Rattle.boundary.specs.declared.Point.{Point}

@@ -68,9 +68,9 @@ least (inf true) n = tt
 least (inf false) n = tt
 least (fin s m e) n = tt
 
-pub around-nowhere : (n : Bounds) → NumberBox n → Around n emptyBox
-around-nowhere n N = record { left = most (n .min .x) (N .min .x); right = least (n .max .x) (N .max .x); bottom = most (n .min .y) (N .min .y); top = least (n .max .y) (N .max .y) }
+pub around-empty : (n : Bounds) → NumberBox n → Around n emptyBox
+around-empty n N = record { left = most (n .min .x) (N .min .x); right = least (n .max .x) (N .max .x); bottom = most (n .min .y) (N .min .y); top = least (n .max .y) (N .max .y) }
 
-pub nowhere-number : NumberBox emptyBox
+pub empty-number : NumberBox emptyBox
 unfolding isNan
-nowhere-number = record { min = record { x = tt; y = tt }; max = record { x = tt; y = tt } }
+empty-number = record { min = record { x = tt; y = tt }; max = record { x = tt; y = tt } }

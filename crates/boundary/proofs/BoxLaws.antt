@@ -23,7 +23,8 @@ use Rattle.number.proofs.Operations.{equation→is, zero-is, finite-is, add-rou
 use Rattle.number.proofs.RoundingLaws.{rounds-order, rounds-neg}
 use Rattle.number.proofs.ExactLaws.{mul-result}
 use Rattle.number.proofs.Monotone.{sub-mono}
-use Rattle.number.proofs.OrderLaws.{is-order, le-self, le-through, not-below, max-one-of, le-abs, neg-le-abs, abs-nonneg, abs-at-most, le-max-left}
+use Rattle.number.proofs.OrderLaws.{is-order, le-self, le-through, not-below}
+use Rattle.number.proofs.MagnitudeOrder.{max-one-of, le-abs, neg-le-abs, abs-nonneg, abs-at-most, le-max-left}
 use Rattle.number.proofs.Values.{held-not-nan, rounded-natAbs, is-rounds, rounds-not-nan}
 use Rattle.boundary.specs.declared.Point.{Point}
 use Rattle.boundary.specs.declared.Edge.{Edge}

@@ -7,7 +7,8 @@ use Rattle.number.specs.Exact.{Held, zeroᶠ}
 use Rattle.number.specs.Signs.{absOf, maxOf}
 use Rattle.number.proofs.Operations.{finite-is, sub-rounds}
 use Rattle.number.proofs.HypotLaws.{hypot-mono}
-use Rattle.number.proofs.OrderLaws.{le-self, le-through, max-one-of, abs-nonneg, abs-at-most, le-max-left, le-max-right, right-not-nan}
+use Rattle.number.proofs.OrderLaws.{le-self, le-through, right-not-nan}
+use Rattle.number.proofs.MagnitudeOrder.{max-one-of, abs-nonneg, abs-at-most, le-max-left, le-max-right}
 use Rattle.number.proofs.Values.{held-not-nan, rounds-not-nan}
 use Rattle.boundary.specs.declared.Point.{Point}
 use Rattle.boundary.specs.declared.Edge.{Edge}

@@ -33,6 +33,6 @@ module _ (s : HalfPlane) (g : ℕ → Edge) (before : Bool) (i n : ℕ) where
   unfolding run startLine
   start-later m l e h = let k : n - i ≡ suc (n - (i + 1)) = omega arith in rw (k, ← e, h, add-one i) (omega arith)
 
-  pub start-nowhere : n ≤ i → startLine s before (run g i (n - i)) ≡ 0
+  pub start-past-all : n ≤ i → startLine s before (run g i (n - i)) ≡ 0
   unfolding run startLine
-  start-nowhere l = let k : n - i ≡ 0 = omega arith in rw k
+  start-past-all l = let k : n - i ≡ 0 = omega arith in rw k

@@ -10,7 +10,8 @@ use Rattle.number.specs.Hypot.{shortEnd, Short}
 use Rattle.number.specs.Signs.{absOf}
 use Rattle.number.proofs.RoundingLaws.{div-opposite}
 use Rattle.number.proofs.Monotone.{mul-mono-left}
-use Rattle.number.proofs.OrderLaws.{max-one-of, through-below}
+use Rattle.number.proofs.OrderLaws.{through-below}
+use Rattle.number.proofs.MagnitudeOrder.{max-one-of}
 use Rattle.number.proofs.Values.{abs-held, is-short}
 use Rattle.boundary.specs.declared.Point.{Point}
 use Rattle.boundary.specs.declared.Edge.{Edge}

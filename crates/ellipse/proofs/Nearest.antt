@@ -8,7 +8,8 @@ use Rattle.number.specs.Exact.{Held, zeroᶠ}
 use Rattle.number.specs.Signs.{absOf}
 use Rattle.number.proofs.SignLaws.{copysign-sign}
 use Rattle.number.proofs.Basics.{or-split}
-use Rattle.number.proofs.OrderLaws.{below-le, not-below, abs-bounds}
+use Rattle.number.proofs.OrderLaws.{below-le, not-below}
+use Rattle.number.proofs.MagnitudeOrder.{abs-bounds}
 use Rattle.number.proofs.Values.{zero-held, abs-held, held-not-nan}
 use Rattle.boundary.specs.declared.Point.{Point}
 use Rattle.distance.specs.Ellipse.{longNearest, ellipseNearest, swapped}
@@ -31,9 +32,9 @@ axis-range {a} A = tested-range a (A .fits) (A .test) tt
 offset-held : {d : Float} → Offset d → Held d
 offset-held {d} D = record { fits = D .fits; finite = abs-bounds d mostOffset tt (D .most) }
 
-offset-stands : {d : Float} → Offset d → OnOrOffAxis (absOf d)
+offset-on-or-off : {d : Float} → Offset d → OnOrOffAxis (absOf d)
 unfolding neg le fits
-offset-stands {d} D =
+offset-on-or-off {d} D =
     let H = offset-held D in
     ⊎-elim (λ t. inl (abs-range (equal-range H zero-held t) tt))
     (λ t. inr (record { from = record { fits = tt; finite = tt }; to = record { fits = tt; finite = tt }; held = abs-held H; low = t; high = D .most }))
@@ -44,7 +45,7 @@ module _ {a b : Float} (A : AxisRange a) (B : AxisRange b) {p : Point} (X : Offs
   long-found : T (le b a) → FoundPoint p (longNearest a b p)
   unfolding longNearest neg le fits
   long-found l =
-      let Q = quadrant-range A B l (offset-stands X) (offset-stands Y) in
+      let Q = quadrant-range A B l (offset-on-or-off X) (offset-on-or-off Y) in
       record {
         x = copysign-range (p .x) (Q .x) tt tt;
         y = copysign-range (p .y) (Q .y) tt tt;

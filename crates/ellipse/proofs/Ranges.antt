@@ -19,7 +19,8 @@ use Rattle.number.proofs.Basics.{or-split}
 use Rattle.number.proofs.Operations.{zero-is, finite-is, equation→is}
 use Rattle.number.proofs.Compare.{eq→, le-neg}
 use Rattle.number.proofs.SignLaws.{copysign-negates, abs-negates}
-use Rattle.number.proofs.OrderLaws.{is-order, order-is, is-below, le-self, below-le, le-through, below-through, finite-between, le-abs, abs-nonneg, max-one-of, le-max-right}
+use Rattle.number.proofs.OrderLaws.{is-order, order-is, is-below, le-self, below-le, le-through, below-through, finite-between}
+use Rattle.number.proofs.MagnitudeOrder.{le-abs, abs-nonneg, max-one-of, le-max-right}
 use Rattle.number.proofs.Values.{zero-held, neg-held, abs-held, held-not-nan}
 use Rattle.number.proofs.Monotone.{add-mono, sub-mono, mul-mono-left, mul-mono-both, div-mono-both}
 use Rattle.number.proofs.CloseRoot.{sqrt-fits}

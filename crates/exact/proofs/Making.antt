@@ -39,7 +39,7 @@ use Rattle.lists.proofs.RunLaws.{length-run}
 use Rattle.lists.proofs.FoldLaws.{any-never}
 use Rattle.lists.proofs.MemberLaws.{any-each, take-each, reverse-each}
 use Rattle.exact.proofs.Loop.{loop, edges-loop}
-use Rattle.exact.proofs.Turned.{loop-turned}
+use Rattle.exact.proofs.Turned.{loop-reversed}
 use Rattle.exact.proofs.Numbers.{length-numbers, vertices-numbers, numbers-vertices, numbers-on}
 use Rattle.exact.proofs.WholeEdges.{loop-on, vertices-on}
 use Rattle.accept.proofs.TestLaws.{Shape, shape, tested, refusing-passed}
@@ -54,9 +54,9 @@ sameEnds e = eqZ (e .a .x) (e .b .x) && eqZ (e .a .y) (e .b .y)
 same-exact : (e : Edge) (f : EdgeZ) → EdgeOn e f → samePoint (e .a) (e .b) ≡ sameEnds f
 same-exact e f E = ap₂ _&&_ (eq-is (E .a .x .is) (E .b .x .is)) (eq-is (E .a .y .is) (E .b .y .is))
 
-same-turned : (qs : List PointZ) → any sameEnds (loop edgeZ (reverse qs)) ≡ any sameEnds (loop edgeZ qs)
+same-reversed : (qs : List PointZ) → any sameEnds (loop edgeZ (reverse qs)) ≡ any sameEnds (loop edgeZ qs)
 unfolding any
-same-turned qs = loop-turned edgeZ (λ b e. b || sameEnds e) (λ b. b) (λ b e f. swap b (sameEnds e) (sameEnds f)) (λ s a b. ap (λ t. s || t) (ap₂ _&&_ (equal (b .x) (a .x)) (equal (b .y) (a .y)))) false qs
+same-reversed qs = loop-reversed edgeZ (λ b e. b || sameEnds e) (λ b. b) (λ b e f. swap b (sameEnds e) (sameEnds f)) (λ s a b. ap (λ t. s || t) (ap₂ _&&_ (equal (b .x) (a .x)) (equal (b .y) (a .y)))) false qs
   where
     swap : (a b c : Bool) → (a || b || c) ≡ (a || c || b)
     swap true b c = refl
@@ -69,10 +69,10 @@ same-turned qs = loop-turned edgeZ (λ b e. b || sameEnds e) (λ b. b) (λ b e f
     equal x y = and-comm (leZ x y) (leZ y x)
 
 -- ---- tests 8 and 9: backwards, the shoelace sum is the opposite
-shoelace-turned : (qs : List PointZ) → shoelaceZ (loop edgeZ (reverse qs)) ≡ negℤ (shoelaceZ (loop edgeZ qs))
+shoelace-reversed : (qs : List PointZ) → shoelaceZ (loop edgeZ (reverse qs)) ≡ negℤ (shoelaceZ (loop edgeZ qs))
 unfolding shoelaceZ shoelaceTermZ
-shoelace-turned qs =
-    loop-turned edgeZ (λ z e. z +ℤ shoelaceTermZ e) negℤ
+shoelace-reversed qs =
+    loop-reversed edgeZ (λ z e. z +ℤ shoelaceTermZ e) negℤ
     (λ z e f. ring (z ∷ shoelaceTermZ e ∷ shoelaceTermZ f ∷ []) (search quote depth 30) tt)
     (λ z a b. ring (z ∷ a .x ∷ a .y ∷ b .x ∷ b .y ∷ []) (search quote depth 30) tt) (pos 0) qs
 
@@ -104,7 +104,7 @@ module _ {w : List Float} {qs : List PointZ} (s : Shape w) (r : Each PointOn (ve
   back-few = rw back-length (s .few)
 
   back-area : Is 21 (areaOf (edges back)) (negℤ total)
-  back-area = subst (Is 21 (areaOf (edges back))) (shoelace-turned qs) (area-exact (edges-numbers (reverse-each r)) (few-edges back back-few))
+  back-area = subst (Is 21 (areaOf (edges back))) (shoelace-reversed qs) (area-exact (edges-numbers (reverse-each r)) (few-edges back back-few))
 
   module _ (negative : negativeArea w ≡ true) where
     above : pos 0 ≺ negℤ total
@@ -119,7 +119,7 @@ module _ {w : List Float} {qs : List PointZ} (s : Shape w) (r : Each PointOn (ve
           few = back-few;
           all-finite = any-each (λ x z g. ap not (grid-finite g)) (on .on) ∙ any-never (on .steps);
           all-in-field = any-each (λ x z g. ap not (grid-in-field g)) (on .on) ∙ any-never (on .steps);
-          apart = any-each same-exact (edges-numbers (reverse-each r)) ∙ same-turned qs ∙ sym (any-each same-exact (rw (edges-loop w) (loop-on r))) ∙ s .apart;
+          apart = any-each same-exact (edges-numbers (reverse-each r)) ∙ same-reversed qs ∙ sym (any-each same-exact (rw (edges-loop w) (loop-on r))) ∙ s .apart;
           nonzero = eq-is back-area (zero-is 21) ∙ eq-false above;
         }
 
@@ -153,9 +153,9 @@ made-accepted {v} out {n} g e = go (makeTested v (length out)) refl e
           magnitude = λ {z} m. subst (Is 21 (areaOf (edges w))) (sym (nonneg-nat (not-lt (sym (lt-is m (zero-is 21)) ∙ e)))) m;
         })
 
-    length-turned : (b : Bool) → length (cond b (reverse (vertices w)) (vertices w)) ≡ count w
-    length-turned true = length-reverse (vertices w) ∙ length-vertices w
-    length-turned false = length-vertices w
+    length-reversed : (b : Bool) → length (cond b (reverse (vertices w)) (vertices w)) ≡ count w
+    length-reversed true = length-reverse (vertices w) ∙ length-vertices w
+    length-reversed false = length-vertices w
 
     passed : makeTested v (length out) ≡ Passed → shapeTested w ≡ Passed
     passed t = refusing-passed (shapeTested w) ShortBuffer (ltb (length out) (length v)) (unfold makeTested in t) .0
@@ -168,4 +168,4 @@ made-accepted {v} out {n} g e = go (makeTested v (length out)) refl e
     go Passed t e =
         let k : count w ≡ n = cc in
         let ps = cond (negativeArea w) (reverse (vertices w)) (vertices w) in
-        rw (take-at (coordinatesOf ps) (drop (length (coordinatesOf ps)) out) (2 * n) (length-numbers ps ∙ ap (λ (m : ℕ). 2 * m) (length-turned (negativeArea w) ∙ k))) (made (negativeArea w) (passed t) refl)
+        rw (take-at (coordinatesOf ps) (drop (length (coordinatesOf ps)) out) (2 * n) (length-numbers ps ∙ ap (λ (m : ℕ). 2 * m) (length-reversed (negativeArea w) ∙ k))) (made (negativeArea w) (passed t) refl)

@@ -38,13 +38,13 @@ product h g = mul-sized h g (lit≤ tt) (lit≤ tt)
 
 module _ {e : Edge} {f : EdgeZ} {p : Point} {q : PointZ} (E : EdgeOn e f) (P : PointOn p q) where
   -- ---- on the edge
-  turn-exact : Is 20 (crossOf e p) (crossZ f q)
+  cross-exact : Is 20 (crossOf e p) (crossZ f q)
   unfolding crossZ
-  turn-exact = sub-sized (product (difference (E .b .x) (E .a .x)) (difference (P .y) (E .a .y))) (product (difference (E .b .y) (E .a .y)) (difference (P .x) (E .a .x))) (lit≤ tt) (lit≤ tt) .is
+  cross-exact = sub-sized (product (difference (E .b .x) (E .a .x)) (difference (P .y) (E .a .y))) (product (difference (E .b .y) (E .a .y)) (difference (P .x) (E .a .x))) (lit≤ tt) (lit≤ tt) .is
 
   pub on-edge-exact : onEdge p e ≡ onEdgeZ q f
   unfolding onEdge onEdgeZ
-  on-edge-exact = ap₂ _&&_ (eq-is turn-exact (zero-is 20)) (ap₂ _&&_ (between-is (E .a .x .is) (E .b .x .is) (P .x .is)) (between-is (E .a .y .is) (E .b .y .is) (P .y .is)))
+  on-edge-exact = ap₂ _&&_ (eq-is cross-exact (zero-is 20)) (ap₂ _&&_ (between-is (E .a .x .is) (E .b .x .is) (P .x .is)) (between-is (E .a .y .is) (E .b .y .is) (P .y .is)))
 
   -- ---- the crossing, at x = n / d + b.x
   abbrev d : ℤ

@@ -15,7 +15,7 @@ use Rattle.number.specs.Exact.{Is, zeroᶠ, one}
 use Rattle.number.specs.Rounding.{Result}
 use Rattle.number.specs.Signs.{clampOf}
 use Rattle.number.proofs.Operations.{equation→is, zero-is}
-use Rattle.number.proofs.OrderLaws.{clamp-is}
+use Rattle.number.proofs.MagnitudeOrder.{clamp-is}
 use Rattle.number.proofs.RoundingLaws.{rounded-within, rounded-relative, rounded-nonneg, rounded-nonpos}
 use Rattle.number.proofs.Compare.{is-lt, not-lt}
 use Rattle.grid.proofs.Regions.{InRegion, reach}

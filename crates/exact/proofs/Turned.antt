@@ -12,15 +12,15 @@ module _ {A B S : Type 0} (join : A → A → B) (f : S → B → S) (h : S → 
   path-last p z r [] = refl
   path-last p z r (q ∷ ps) = ap (λ xs. join p q ∷ xs) (path-last q z r ps)
 
-  path-turned : (s : S) (p z : A) (ps : List A) → fold f (h s) (path join z (reverse ps) p) ≡ h (fold f s (path join p ps z))
+  path-reversed : (s : S) (p z : A) (ps : List A) → fold f (h s) (path join z (reverse ps) p) ≡ h (fold f s (path join p ps z))
   unfolding fold path
-  path-turned s p z [] = turn s p z
-  path-turned s p z (r ∷ ps) =
+  path-reversed s p z [] = turn s p z
+  path-reversed s p z (r ∷ ps) =
       ap (λ qs. fold f (h s) (path join z qs p)) (reverse-cons r ps)
       ∙ ap (fold f (h s)) (path-last z p r (reverse ps))
       ∙ fold-last f free (h s) (join r p) (path join z (reverse ps) r)
       ∙ ap (λ t. fold f t (path join z (reverse ps) r)) (turn s p r)
-      ∙ path-turned (f s (join p r)) r z ps
+      ∙ path-reversed (f s (join p r)) r z ps
 
   -- the loop may begin at its last point
   loop-last : (s : S) (p : A) (ps : List A) → fold f s (loop join (ps ++ (p ∷ []))) ≡ fold f s (path join p ps p)
@@ -28,7 +28,7 @@ module _ {A B S : Type 0} (join : A → A → B) (f : S → B → S) (h : S → 
   loop-last s p [] = refl
   loop-last s p (q ∷ ps) = ap (fold f s) (path-last q q p ps) ∙ fold-last f free s (join p q) (path join q ps p)
 
-  pub loop-turned : (s : S) (ps : List A) → fold f (h s) (loop join (reverse ps)) ≡ h (fold f s (loop join ps))
+  pub loop-reversed : (s : S) (ps : List A) → fold f (h s) (loop join (reverse ps)) ≡ h (fold f s (loop join ps))
   unfolding fold loop
-  loop-turned s [] = refl
-  loop-turned s (p ∷ ps) = ap (λ qs. fold f (h s) (loop join qs)) (reverse-cons p ps) ∙ loop-last (h s) p (reverse ps) ∙ path-turned s p p ps
+  loop-reversed s [] = refl
+  loop-reversed s (p ∷ ps) = ap (λ qs. fold f (h s) (loop join qs)) (reverse-cons p ps) ∙ loop-last (h s) p (reverse ps) ∙ path-reversed s p p ps

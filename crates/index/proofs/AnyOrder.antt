@@ -14,7 +14,7 @@ use Rattle.number.proofs.Values.{held-not-nan}
 use Rattle.boundary.specs.declared.Point.{Point}
 use Rattle.boundary.specs.declared.Bounds.{Bounds}
 use Rattle.boundary.specs.Boxes.{PointOf, FiniteBox, Around, emptyBox, pointBox}
-use Rattle.boundary.proofs.AroundLaws.{NotNan, NumberBox, around-nowhere, nowhere-number}
+use Rattle.boundary.proofs.AroundLaws.{NotNan, NumberBox, around-empty, empty-number}
 use Rattle.lists.specs.Lists.{In}
 use Rattle.tree.specs.Tree.{hullOf, spreadOf, alongY}
 use Rattle.index.specs.Rust.{hullAs, spreadAs, alongYAs, SameBox}
@@ -25,8 +25,8 @@ module _ (W : ℕ → Bounds) (is : List ℕ) (N : (i : ℕ) → In i is → Num
   around-both : Around (hullAs W is) (hullOf W is) × Around (hullOf W is) (hullAs W is)
   unfolding hullAs
   around-both =
-      let f = folded W is emptyBox nowhere-number N in
-      (hull-of-within W (hullAs W is) (f .number) is (f .each), fold-within W (hullOf W is) is emptyBox (around-nowhere (hullOf W is) (hull-of-number W is N)) (hull-of-around W is N))
+      let f = folded W is emptyBox empty-number N in
+      (hull-of-within W (hullAs W is) (f .number) is (f .each), fold-within W (hullOf W is) is emptyBox (around-empty (hullOf W is) (hull-of-number W is N)) (hull-of-around W is N))
 
   pub hull-same : SameBox (hullAs W is) (hullOf W is)
   hull-same =

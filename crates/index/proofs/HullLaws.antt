@@ -10,14 +10,15 @@ use lib.Ieee.{Float, nan, inf, fin, binary64, mul, neg, lt, le}
 use lib.Ieee.Fits.{and-l, and-r}
 use lib.Ieee.Scale.{finite}
 use Rattle.number.specs.Signs.{absOf, maxOf}
-use Rattle.number.proofs.OrderLaws.{finite-between, max-one-of}
+use Rattle.number.proofs.OrderLaws.{finite-between}
+use Rattle.number.proofs.MagnitudeOrder.{max-one-of}
 use Rattle.number.proofs.Values.{add-not-nan, sub-not-nan, mul-not-nan, abs-finite}
 use Rattle.boundary.specs.declared.Bounds.{Bounds}
 use Rattle.number.specs.Exact.{Held, one}
 use Rattle.boundary.specs.Boxes.{FiniteBox, Around, limit, inField, boxFits, hull, emptyBox, nano, scaleOf, widenedOf}
 use Rattle.lists.specs.Lists.{fold, times, In}
 use Rattle.number.proofs.Basics.{one-of}
-use Rattle.boundary.proofs.AroundLaws.{NotNan, NumberBox, around-self, around-through, hull-number, hull-around, hull-within, around-nowhere, nowhere-number}
+use Rattle.boundary.proofs.AroundLaws.{NotNan, NumberBox, around-self, around-through, hull-number, hull-around, hull-within, around-empty, empty-number}
 use Rattle.sorts.specs.Sort.{sort}
 use Rattle.sorts.proofs.SortLaws.{length-sort, times-sort}
 use Rattle.tree.specs.Tree.{hullOf}
@@ -79,12 +80,12 @@ module _ (W : ℕ → Bounds) where
   module _ (is : List ℕ) (N : (i : ℕ) → In i is → NumberBox (W i)) where
     pub hull-of-number : NumberBox (hullOf W is)
     unfolding hullOf
-    hull-of-number = folded (sort leb is) emptyBox nowhere-number (λ i h. N i (rw (times-sort leb i is) at h)) .number
+    hull-of-number = folded (sort leb is) emptyBox empty-number (λ i h. N i (rw (times-sort leb i is) at h)) .number
 
     -- it is around each
     pub hull-of-around : (i : ℕ) → In i is → Around (hullOf W is) (W i)
     unfolding hullOf
-    hull-of-around i h = folded (sort leb is) emptyBox nowhere-number (λ i h. N i (rw (times-sort leb i is) at h)) .each i (rw (times-sort leb i is) h)
+    hull-of-around i h = folded (sort leb is) emptyBox empty-number (λ i h. N i (rw (times-sort leb i is) at h)) .each i (rw (times-sort leb i is) h)
 
   pub fold-within : (n : Bounds) (is : List ℕ) (b : Bounds) → Around n b → ((i : ℕ) → In i is → Around n (W i)) → Around n (fold hullStep b is)
   unfolding fold
@@ -94,7 +95,7 @@ module _ (W : ℕ → Bounds) where
   -- what is around each is around it
   pub hull-of-within : (n : Bounds) → NumberBox n → (is : List ℕ) → ((i : ℕ) → In i is → Around n (W i)) → Around n (hullOf W is)
   unfolding hullOf
-  hull-of-within n N is q = fold-within n (sort leb is) emptyBox (around-nowhere n N) (λ i h. q i (rw (times-sort leb i is) at h))
+  hull-of-within n N is q = fold-within n (sort leb is) emptyBox (around-empty n N) (λ i h. q i (rw (times-sort leb i is) at h))
 
 -- ---- the box around finite boxes is finite
 above-low : (x : Float) → T (finite x) → lt (inf true) x ≡ true

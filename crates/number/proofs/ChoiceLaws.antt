@@ -13,7 +13,8 @@ use borrow.Author.Tests.{lt-ltb, le-ltb, ne-eqb, eqb-true}
 use Rattle.number.specs.Exact.{zeroᶠ, one}
 use Rattle.number.specs.Signs.{signBit, withSign, absOf, standsBefore, maxOf, clampOf}
 use Rattle.number.proofs.Units.{value-unique}
-use Rattle.number.proofs.OrderLaws.{le-through, not-below, below-le, level-le, level-ge, le-level, le-not-below, below-not-le, below-through, right-not-nan, above-sign}
+use Rattle.number.proofs.OrderLaws.{le-through, not-below, below-le, level-le, level-ge, le-level, le-not-below, below-not-le, below-through, right-not-nan}
+use Rattle.number.proofs.MagnitudeOrder.{above-sign}
 use Rattle.number.proofs.Basics.{one-of}
 
 -- ---- against a magnitude

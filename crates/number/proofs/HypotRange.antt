@@ -9,7 +9,8 @@ use Rattle.number.specs.Signs.{absOf}
 use Rattle.number.specs.Exact.{zeroᶠ, one}
 use Rattle.number.specs.Root.{sqrtOf, plus-fin}
 use Rattle.number.specs.Hypot.{hypotOf, squareLeast, squareEnd}
-use Rattle.number.proofs.OrderLaws.{le-self, le-through, right-not-nan, abs-nonneg, abs-plus}
+use Rattle.number.proofs.OrderLaws.{le-self, le-through, right-not-nan}
+use Rattle.number.proofs.MagnitudeOrder.{abs-nonneg, abs-plus}
 use Rattle.number.proofs.HypotLaws.{hypot-swap, hypot-mono}
 use Rattle.number.proofs.HypotAxis.{hypot-axis}
 

@@ -11,6 +11,8 @@ pub mod ExactLaws
 pub mod Compare
 -- The order of all floats, infinities included.
 pub mod OrderLaws
+-- Magnitudes, minimum, maximum and clamp in that order.
+pub mod MagnitudeOrder
 -- The larger of a number and a magnitude, and the clamp to 0..1, by comparisons.
 pub mod ChoiceLaws
 -- The sign bit, and what is computed by it.

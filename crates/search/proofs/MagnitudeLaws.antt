@@ -15,7 +15,7 @@ use lib.Ieee.Bits.{is-true}
 use lib.Ieee.Fits.{up-pos}
 use lib.Pow.{pow-pos}
 use Rattle.number.specs.Exact.{zeroᶠ}
-use Rattle.number.proofs.OrderLaws.{abs-neg, abs-plus}
+use Rattle.number.proofs.MagnitudeOrder.{abs-neg, abs-plus}
 use Rattle.number.specs.Root.{Plus, plus-inf, plus-fin}
 use Rattle.number.specs.Signs.{absOf}
 use Rattle.number.proofs.HypotLaws.{hypot-fits, hypot-plus}
@@ -30,12 +30,11 @@ use Rattle.lists.specs.Lists.{run, fold}
 use Rattle.boundary.specs.Line.{footOf, lineNear}
 use Rattle.distance.specs.Nearest.{nearer, farAway, nearestOf, roundingOf, flipped, awayAlong, signedOf}
 use Rattle.boundary.specs.Outline.{count, after, vertexAt, edgeAt, vertices, edges}
-use Rattle.distance.specs.Piece.{pieceNear}
 use Rattle.boundary.proofs.BoxLaws.{around-inside}
 use Rattle.boundary.proofs.FieldLaws.{field-not-nan}
 use Rattle.distance.proofs.SearchLaws.{foot-near, near-finite, nearerStep}
 use Rattle.geometry.specs.Polygon.{boundsOf, containsOf}
-use Rattle.boundary.proofs.AroundLaws.{NotNan, NumberBox, around-self, around-through, hull-number, hull-around, nowhere-number}
+use Rattle.boundary.proofs.AroundLaws.{NotNan, NumberBox, around-self, around-through, hull-number, hull-around, empty-number}
 use Rattle.set.specs.Set.{Outline, outlineBox}
 use Rattle.search.specs.Least.{magnitudeOf}
 use Rattle.boundary.specs.Boxes.{DoubleBox}
@@ -140,7 +139,7 @@ module _ (o : Outline) (N : (i : ℕ) → i < length o → FieldValue (getD o i 
   -- its box has every vertex
   vertex-inside : (i : ℕ) → i < count o → Inside (vertexAt o i) (outlineBox o)
   unfolding boundsOf vertices
-  vertex-inside i l = boxed (vertexAt o) 0 (count o) emptyBox nowhere-number number .inside i (omega arith) (omega arith)
+  vertex-inside i l = boxed (vertexAt o) 0 (count o) emptyBox empty-number number .inside i (omega arith) (omega arith)
     where
       number : (j : ℕ) → j < 0 + count o → PointOf NotNan (vertexAt o j)
       number j h = let v = vertex-field j (omega arith) in record { x = field-not-nan (v .x); y = field-not-nan (v .y) }
@@ -148,7 +147,7 @@ module _ (o : Outline) (N : (i : ℕ) → i < length o → FieldValue (getD o i 
   module _ (p : Point) (P : FieldPoint p) (some : 0 < count o) where
     -- what holds of the distance of every edge holds of the nearest
     later : (Q : Near → Type 0) → ((i : ℕ) → i < count o → Q (lineNear (edgeAt o i) p)) → (i m : ℕ) → i + m ≤ count o → (best : Near) → Q best → Q (fold (nearerStep p) best (run (edgeAt o) i m))
-    unfolding fold run pieceNear
+    unfolding fold run
     later Q h i zero l best q = q
     later Q h i (suc m) l best q = later Q h (suc i) m (omega arith) (nearer best (lineNear (edgeAt o i) p)) (pick (lt (lineNear (edgeAt o i) p .d) (best .d)))
       where
@@ -157,7 +156,7 @@ module _ (o : Outline) (N : (i : ℕ) → i < length o → FieldValue (getD o i 
         pick false = q
 
     from-first : (Q : Near → Type 0) → ((i : ℕ) → i < count o → Q (lineNear (edgeAt o i) p)) → (n : ℕ) → 0 < n → n ≤ count o → Q (fold (nearerStep p) (farAway p) (run (edgeAt o) 0 n))
-    unfolding fold run pieceNear
+    unfolding fold run
     from-first Q h zero l m = absurd (omega arith)
     from-first Q h (suc n) l m = later Q h 1 n (omega arith) (nearer (farAway p) (lineNear (edgeAt o 0) p)) (rw (near-finite (edge-field 0 (omega arith)) P) (h 0 (omega arith)))
 

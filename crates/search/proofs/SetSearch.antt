@@ -8,7 +8,8 @@ use lib.ListN.{length}
 use lib.Ieee.{Float, inf, binary64, sub, isNan}
 use Rattle.number.specs.Exact.{zeroᶠ}
 use Rattle.number.specs.Signs.{maxOf}
-use Rattle.number.proofs.OrderLaws.{le-max-right, right-not-nan}
+use Rattle.number.proofs.OrderLaws.{right-not-nan}
+use Rattle.number.proofs.MagnitudeOrder.{le-max-right}
 use Rattle.number.proofs.HypotLaws.{hypot-not-nan}
 use Rattle.boundary.specs.declared.Point.{Point}
 use Rattle.boundary.specs.declared.Bounds.{Bounds}

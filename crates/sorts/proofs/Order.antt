@@ -10,7 +10,8 @@ use lib.Ieee.Bits.{is-true}
 use borrow.Author.Tests.{le-leb, leb-true, leb-false}
 use Rattle.number.specs.Exact.{zeroᶠ}
 use Rattle.number.specs.Signs.{signBit}
-use Rattle.number.proofs.OrderLaws.{le-not-below, le-through, not-below, below-le, level-le, below-through, above-sign, under-sign}
+use Rattle.number.proofs.OrderLaws.{le-not-below, le-through, not-below, below-le, level-le, below-through}
+use Rattle.number.proofs.MagnitudeOrder.{above-sign, under-sign}
 use Rattle.sorts.specs.Keys.{totalLess, precedesBy, precedes, ahead}
 
 -- ---- of floats that are no NaN
@@ -170,8 +171,8 @@ module _ (key : ℕ → Float) where
       omega arith
 
   -- what goes before a pivot goes before what does not
-  pub ahead-goes : (v : Float) (t a b : ℕ) → ahead key v t a ≡ true → ahead key v t b ≡ false → precedes key a b ≡ true
-  ahead-goes v t a b e f =
+  pub ahead-precedes : (v : Float) (t a b : ℕ) → ahead key v t a ≡ true → ahead key v t b ≡ false → precedes key a b ≡ true
+  ahead-precedes v t a b e f =
       let s = not-says v (key a) t a (not-true (precedesBy v (key a) t a) e) in
       let r = says v (key b) t b (not-false (precedesBy v (key b) t b) f) in
       holds (key a) (key b) a b (through (key a) v (key b) a t b s r)

@@ -16,7 +16,7 @@ use Rattle.sorts.specs.Sort.{insert, sort, keep, others, Dealt, Sorted, 
 use Rattle.sorts.specs.Keys.{precedesBy, precedes, ahead, aheadBit}
 use Rattle.sorts.proofs.Lists.{rest-of, whole-of}
 use Rattle.sorts.proofs.SortLaws.{length-sort}
-use Rattle.sorts.proofs.Order.{goes-total, goes-trans, goes-antisym, ahead-goes}
+use Rattle.sorts.proofs.Order.{goes-total, goes-trans, goes-antisym, ahead-precedes}
 
 -- ---- each member
 pub each-all : {P Q : ℕ → Type 0} (xs : List ℕ) → ((x : ℕ) → P x → Q x) → Every P xs → Every Q xs
@@ -300,7 +300,7 @@ module _ (key : ℕ → Float) where
       let p = ahead key v t in
       let A = keep p xs in
       let B = others p xs in
-      let parts = sort-parts (precedes key) (goes-total key) (goes-trans key) (goes-antisym key) p (ahead-goes key v t) xs in
+      let parts = sort-parts (precedes key) (goes-total key) (goes-trans key) (goes-antisym key) p (ahead-precedes key v t) xs in
       let n : length (sort (precedes key) A) ≡ m = length-sort (precedes key) A ∙ e in
       let one : sort leb (take m (sort (precedes key) xs)) ≡ A = ap (λ (l : List ℕ). sort leb (take m l)) parts ∙ ap (sort leb) (take-at (sort (precedes key) A) (sort (precedes key) B) m n) ∙ ascend-again (precedes key) A ∙ sort-sorted leb A (sorted-keep leb p xs s) in
       let two : sort leb (drop m (sort (precedes key) xs)) ≡ B = ap (λ (l : List ℕ). sort leb (drop m l)) parts ∙ ap (sort leb) (drop-at (sort (precedes key) A) (sort (precedes key) B) m n) ∙ ascend-again (precedes key) B ∙ sort-sorted leb B (sorted-keep leb (λ x. not (p x)) xs s) in

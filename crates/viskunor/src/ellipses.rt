@@ -25,7 +25,7 @@ pub extern "C" fn vk_ellipse_nearest(
         x: centre_x,
         y: centre_y,
     };
-    let answer = ellipse::ellipse::ellipse_nearest(c, semi_x, semi_y, Point { x, y });
+    let answer = ellipse::ellipse_nearest(c, semi_x, semi_y, Point { x, y });
     let fields = answers::distance_fields(answer);
     *nearest_x = fields.distance.v.x;
     *nearest_y = fields.distance.v.y;

@@ -5,7 +5,7 @@ use native.Mathlib.Nat.{sub-zero, le-antisymm, zero-add, add-zero, le-refl}
 use native.Mathlib.Omega.{arith}
 use Rattle.clip.specs.Passes.{marksOf, startLine}
 use Rattle.clip.specs.Lent.{lineIn, linesFrom}
-use Rattle.clip.proofs.FirstPassLaws.{start-here, start-later, start-nowhere}
+use Rattle.clip.proofs.FirstPassLaws.{start-here, start-later, start-past-all}
 use borrow.Author.Needs.{needs}
 use Rattle.clip.proofs.scan.first_pass.Statement.{statement}
 use Rattle.clip.proofs.scan.first_pass.Tie as tie
@@ -65,7 +65,7 @@ loop-again c = (search needs, sym (start-later (c .before .before .before .befor
 returns-2 : tie.Need-returns-2 Inv-loop μ-loop
 returns-2 c =
     let c4 = c .before .before .before .before in
-    let z = start-nowhere (c4 .args .s) (lineIn (c4 .args .w .now) (c4 .args .from)) (c .before .loop .before) (c .before .loop .i) (c4 .args .n) (c .loop-test .left) in
+    let z = start-past-all (c4 .args .s) (lineIn (c4 .args .w .now) (c4 .args .from)) (c .before .loop .before) (c .before .loop .i) (c4 .args .n) (c .loop-test .left) in
     let j = sym (add-zero _) ∙ (rw (z, le-antisymm (c .before .loop .inv .0) (c .loop-test .left)) at (c .before .loop .inv .1)) in
     (rw (c .before .before .marks-at .ensures, ← j), le-refl _)
 

@@ -7,7 +7,8 @@ use lib.Ieee.Bits.{is-true}
 use lib.Ieee.Fits.{and-l, and-r}
 use Rattle.number.proofs.HypotLaws.{hypot-mono}
 use Rattle.number.proofs.HypotClear.{hypot-clear}
-use Rattle.number.proofs.OrderLaws.{lt-asym, le-not-below, level-abs}
+use Rattle.number.proofs.OrderLaws.{lt-asym, le-not-below}
+use Rattle.number.proofs.MagnitudeOrder.{level-abs}
 use Rattle.number.proofs.root.hypot_less.Statement.{statement}
 use Rattle.number.proofs.root.hypot_less.Tie as tie
 

@@ -1,8 +1,8 @@
--- `ellipse::ellipse::axis_fits` meets its contract. Assumes nothing.
+-- `ellipse::axis_fits` meets its contract. Assumes nothing.
 use mathlib.Core.Path.{refl}
 use lib.Ieee.{ofBits}
-use Rattle.ellipse.proofs.ellipse.axis_fits.Statement.{statement}
-use Rattle.ellipse.proofs.ellipse.axis_fits.Tie as tie
+use Rattle.ellipse.proofs.axis_fits.Statement.{statement}
+use Rattle.ellipse.proofs.axis_fits.Tie as tie
 
 returns : tie.Need-returns
 unfolding ofBits

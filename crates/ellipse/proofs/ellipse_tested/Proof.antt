@@ -1,8 +1,8 @@
--- `ellipse::ellipse::ellipse_tested` meets its contract. Assumes nothing.
+-- `ellipse::ellipse_tested` meets its contract. Assumes nothing.
 use Rattle.ellipse.specs.Ellipse.{ellipseTested}
 use borrow.Author.Needs.{needs}
-use Rattle.ellipse.proofs.ellipse.ellipse_tested.Statement.{statement}
-use Rattle.ellipse.proofs.ellipse.ellipse_tested.Tie as tie
+use Rattle.ellipse.proofs.ellipse_tested.Statement.{statement}
+use Rattle.ellipse.proofs.ellipse_tested.Tie as tie
 
 point-in-field-requires : tie.Need-point-in-field-requires
 point-in-field-requires c κs = search needs

@@ -1,9 +1,9 @@
--- `ellipse::ellipse::offset_fits` meets its contract. Assumes nothing.
+-- `ellipse::offset_fits` meets its contract. Assumes nothing.
 use borrow.Author.Needs.{needs}
 use lib.Ieee.{ofBits}
 use Rattle.ellipse.specs.Ellipse.{offsetFits}
-use Rattle.ellipse.proofs.ellipse.offset_fits.Statement.{statement}
-use Rattle.ellipse.proofs.ellipse.offset_fits.Tie as tie
+use Rattle.ellipse.proofs.offset_fits.Statement.{statement}
+use Rattle.ellipse.proofs.offset_fits.Tie as tie
 
 abs-requires : tie.Need-abs-requires
 abs-requires c κs = search needs

@@ -1,9 +1,9 @@
--- `ellipse::ellipse::ellipse_nearest` meets its contract. Assumes nothing.
+-- `ellipse::ellipse_nearest` meets its contract. Assumes nothing.
 use borrow.Author.Needs.{needs}
 use Rattle.accept.specs.Refusals.{given}
 use Rattle.ellipse.specs.Ellipse.{ellipseAnswer}
-use Rattle.ellipse.proofs.ellipse.ellipse_nearest.Statement.{statement}
-use Rattle.ellipse.proofs.ellipse.ellipse_nearest.Tie as tie
+use Rattle.ellipse.proofs.ellipse_nearest.Statement.{statement}
+use Rattle.ellipse.proofs.ellipse_nearest.Tie as tie
 
 ellipse-tested-requires : tie.Need-ellipse-tested-requires
 ellipse-tested-requires c κs = search needs

@@ -1,8 +1,8 @@
--- `ellipse::ellipse::ellipse_fits` meets its contract. Assumes nothing.
+-- `ellipse::ellipse_fits` meets its contract. Assumes nothing.
 use borrow.Author.Needs.{needs}
 use Rattle.ellipse.specs.Ellipse.{ellipseFits}
-use Rattle.ellipse.proofs.ellipse.ellipse_fits.Statement.{statement}
-use Rattle.ellipse.proofs.ellipse.ellipse_fits.Tie as tie
+use Rattle.ellipse.proofs.ellipse_fits.Statement.{statement}
+use Rattle.ellipse.proofs.ellipse_fits.Tie as tie
 
 axis-fits-requires : tie.Need-axis-fits-requires
 axis-fits-requires c κs = search needs
