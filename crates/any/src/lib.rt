@@ -4,14 +4,16 @@ ghost use Prim.Native.Nat.{_*_, _≤_};
 ghost use lib.ListN.{length};
 ghost use Rattle.lists.specs.Lists.{any};
 ghost use Rattle.index.specs.Buffer.{buffer};
-ghost use Rattle.set.specs.Set.{startOf, outlinesOf};
-ghost use Rattle.set.specs.Answers.{worked, Ready, Space, Starts};
+ghost use Rattle.set.specs.Set.{startOf, outlinesOf, Fit, Fitting};
+ghost use Rattle.set.specs.Answers.{worked, Ready, Starts, Indexed};
 ghost use Rattle.any.specs.Answers.{containsIn, anyAt, anyOutcome};
 use accept::Answer;
 use accept::Test;
 use boundary::Bounds;
 use boundary::Point;
 use geometry::polygon;
+use index::building;
+use set::frame;
 use set::outlines;
 use set::refusals;
 
@@ -38,92 +40,52 @@ fn any_holds(v: &[f64], counts: &[u32], starts: &[u32], list: &[u32], p: Point) 
     false
 }
 
-// Whether an outline that `meeting` lists for p, as a cell, contains p; the index is built in the lent
-// buffers, and cleared. The first three lists are lent for the boxes, the starts and the listing.
-fn any_in(
+// Whether an outline that the walk of the set's index lists for p, as a cell, contains p.
+fn any_found(
     v: &[f64],
     counts: &[u32],
+    starts: &[u32],
     p: Point,
-    boxes: &mut [f64],
-    starts: &mut [u32],
-    list: &mut [u32],
-    corners: &mut [f64],
-    links: &mut [u32],
-    items: &mut [u32],
+    corners: &[f64],
+    links: &[u32],
+    items: &[u32],
 ) -> bool
-    requires { ⌜ Ready (now v) (now counts) (buffer (now corners) (now links) (now items))
-        × Space (now counts) (now boxes) (now starts) × (length (now list) ≡ 1024) ⌝ }
-    ensures { λ r. ⌜ record { answer = r; lent = buffer (now (corners .exit)) (now (links .exit)) (now (items .exit)) }
-        ≡ worked (anyAt (outlinesOf (now (v .entry)) (now (counts .entry))) p) (buffer (now (corners .entry)) (now (links .entry)) (now (items .entry))) ⌝ }
+    requires { ⌜ Fit (now v) (now counts) × Fitting (outlinesOf (now v) (now counts)) × Starts (now counts) (now starts)
+        × Indexed (outlinesOf (now v) (now counts)) (buffer (now corners) (now links) (now items)) ⌝ }
+    ensures { λ r. ⌜ r ≡ anyAt (outlinesOf (now (v .entry)) (now (counts .entry))) p ⌝ }
 {
     let n = 4 * counts.len();
-    outlines::put_boxes(v, counts, boxes);
-    outlines::put_starts(counts, starts);
-    let b = &boxes[..];
     let cell = Bounds { min: p, max: p };
-    let count = meeting::listed(&b[0..n], cell, corners, links, items, list);
+    let mut list = [0; 1024];
+    let count = meeting::walk(n, building::LEVELS, corners, links, items, cell, &mut list);
     let l = &list[..];
     any_holds(v, counts, starts, &l[0..count], p)
 }
 
-// The same, with its own space for them: of at most 32 outlines, and of any set. The space is as large as
-// is needed, since it is filled with zeros first.
-fn any_few(
+// The same of a set that passed the tests: its index is built in the lent buffers, and cleared. The first
+// list is lent for the starts.
+fn any_in(
     v: &[f64],
     counts: &[u32],
     p: Point,
+    starts: &mut [u32],
     corners: &mut [f64],
     links: &mut [u32],
     items: &mut [u32],
 ) -> bool
-    requires { ⌜ Ready (now v) (now counts) (buffer (now corners) (now links) (now items)) × (length (now counts) ≤ 32) ⌝ }
+    requires { ⌜ Ready (now v) (now counts) (buffer (now corners) (now links) (now items)) × (length (now counts) ≤ length (now starts)) ⌝ }
     ensures { λ r. ⌜ record { answer = r; lent = buffer (now (corners .exit)) (now (links .exit)) (now (items .exit)) }
         ≡ worked (anyAt (outlinesOf (now (v .entry)) (now (counts .entry))) p) (buffer (now (corners .entry)) (now (links .entry)) (now (items .entry))) ⌝ }
 {
-    let mut boxes = [0.0; 128];
-    let mut starts = [0; 32];
-    let mut list = [0; 1024];
-    any_in(
-        v,
-        counts,
-        p,
-        &mut boxes,
-        &mut starts,
-        &mut list,
-        corners,
-        links,
-        items,
-    )
+    outlines::put_starts(counts, starts);
+    frame::index_set(v, counts, corners, links, items);
+    let found = any_found(v, counts, starts, p, corners, links, items);
+    building::clear(corners, links, items);
+    found
 }
 
-fn any_many(
-    v: &[f64],
-    counts: &[u32],
-    p: Point,
-    corners: &mut [f64],
-    links: &mut [u32],
-    items: &mut [u32],
-) -> bool
-    requires { ⌜ Ready (now v) (now counts) (buffer (now corners) (now links) (now items)) ⌝ }
-    ensures { λ r. ⌜ record { answer = r; lent = buffer (now (corners .exit)) (now (links .exit)) (now (items .exit)) }
-        ≡ worked (anyAt (outlinesOf (now (v .entry)) (now (counts .entry))) p) (buffer (now (corners .entry)) (now (links .entry)) (now (items .entry))) ⌝ }
-{
-    let mut boxes = [0.0; 4096];
-    let mut starts = [0; 1024];
-    let mut list = [0; 1024];
-    any_in(
-        v,
-        counts,
-        p,
-        &mut boxes,
-        &mut starts,
-        &mut list,
-        corners,
-        links,
-        items,
-    )
-}
-
+// The same, with its own space for the starts: that of 32 outlines, where it is enough, since it is filled
+// with zeros first.
 fn any_of(
     v: &[f64],
     counts: &[u32],
@@ -137,9 +99,11 @@ fn any_of(
         ≡ worked (anyAt (outlinesOf (now (v .entry)) (now (counts .entry))) p) (buffer (now (corners .entry)) (now (links .entry)) (now (items .entry))) ⌝ }
 {
     if counts.len() <= 32 {
-        return any_few(v, counts, p, corners, links, items);
+        let mut starts = [0; 32];
+        return any_in(v, counts, p, &mut starts, corners, links, items);
     }
-    any_many(v, counts, p, corners, links, items)
+    let mut starts = [0; 1024];
+    any_in(v, counts, p, &mut starts, corners, links, items)
 }
 
 // Whether an outline of the set that `meeting` lists for p, as a cell, contains p: 1, or 0.

@@ -6,3 +6,5 @@ pub mod HalveLaws
 pub mod ClearLaws
 -- The search for the nearest edge.
 pub mod SearchLaws
+-- An outline's edges as pieces.
+pub mod PieceLaws

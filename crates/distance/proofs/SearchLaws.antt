@@ -26,7 +26,6 @@ use Rattle.distance.specs.declared.FoundEdge.{FoundEdge}
 use Rattle.lists.specs.Lists.{run, fold, any}
 use Rattle.boundary.specs.Outline.{count, after, vertexAt, edgeAt, edges}
 use Rattle.boundary.specs.Line.{lessPoint, squaresOf, footOf, normalOf, lineNear}
-use Rattle.distance.specs.Piece.{pieceOf, pieceNear}
 use Rattle.distance.specs.Nearest.{nearer, farAway, nearestOf}
 use Rattle.boundary.specs.Boxes.{inField, pointInField, edgeInField, PointOf, FieldValue, FieldPoint, FieldEdge}
 use Rattle.distance.specs.Search.{margin, outside, gapSquares, lengthTo, foundOf, edgeWins}
@@ -111,7 +110,7 @@ module _ (e : Edge) (i : ℕ) (p : Point) {f : FoundEdge} (is : f ≡ foundOf e 
 -- ---- the loop: `best` is the nearest of the first i edges, or one that is still to come and nearer than all of those
 
 abbrev pub nearerStep : Point → Near → Edge → Near
-nearerStep p best e = nearer best (pieceNear (pieceOf e) p)
+nearerStep p best e = nearer best (lineNear e p)
 
 pub record SearchedEdges (v : List Float) (p : Point) (i : ℕ) (best : FoundEdge) : Type 0 where
   pub within : i ≤ count v
@@ -130,7 +129,7 @@ module _ (v : List Float) (p : Point) (k : ℕ) (l : k < count v) (short : Point
   all = rw (sub-zero (count v))
 
   pub searched-first : SearchedEdges v p (cond (eqb k 0) 1 0) (foundOf (edgeAt v k) k p)
-  unfolding foundOf pieceNear
+  unfolding foundOf
   searched-first = at (eqb k 0) refl
     where
       at : (b : Bool) → eqb k 0 ≡ b → SearchedEdges v p (cond b 1 0) (foundOf (edgeAt v k) k p)
@@ -150,7 +149,6 @@ module _ {v : List Float} {p : Point} {i : ℕ} {best : FoundEdge} (r : FoundEdg
   e = edgeAt v i
 
   next : fold (nearerStep p) (nearer (S .first) (lineNear e p)) (run (edgeAt v) (i + 1) (count v - (i + 1))) ≡ nearestOf (edges v) p
-  unfolding pieceNear
   next = sym (fold-run-next (nearerStep p) (edgeAt v) (S .first) i (count v) l) ∙ S .left
 
   -- it is the nearest of the first i + 1

@@ -9,8 +9,8 @@ use Rattle.boundary.specs.declared.Point.{Point}
 use Rattle.boundary.specs.declared.Edge.{Edge}
 use Rattle.boundary.specs.declared.Near.{Near}
 use Rattle.boundary.specs.declared.Distance.{Distance}
+use Rattle.boundary.specs.Line.{lineNear}
 use Rattle.lists.specs.Lists.{fold}
-use Rattle.distance.specs.Piece.{pieceOf, pieceNear}
 
 -- ---- `distance`: the first among equals
 abbrev pub nearer : Near → Near → Near
@@ -21,8 +21,8 @@ abbrev pub farAway : Point → Near
 farAway p = record { d = inf false; q = p; n = record { x = one; y = zeroᶠ } }
 
 unfoldable pub nearestOf : List Edge → Point → Near
-unfolding fold pieceNear
-nearestOf es p = fold (λ best e. nearer best (pieceNear (pieceOf e) p)) (farAway p) es
+unfolding fold
+nearestOf es p = fold (λ best e. nearer best (lineNear e p)) (farAway p) es
 
 -- ---- `signed`: the magnitude is kept, and the threshold selects only the normal
 -- 16 × 2 ^ -52

@@ -12,6 +12,7 @@ ghost use Rattle.boundary.specs.Line.{lessPoint, squaresOf, footOf, normalOf, l
 ghost use Rattle.distance.specs.Nearest.{nearestOf, roundingOf, flipped, signedOf};
 ghost use Rattle.distance.specs.Search.{outside, gapSquares, lengthTo, foundOf, edgeWins, NearestEdge};
 use crate::FoundEdge;
+use crate::Piece;
 use boundary::Distance;
 use boundary::Edge;
 use boundary::Point;
@@ -205,6 +206,14 @@ fn flip(inside: bool, x: f64) -> f64
     pick(inside, -x, x)
 }
 
+// The edge's own normal: that of its nearest point, as a piece. Few points ask for it.
+fn own_normal(e: Edge, p: Point) -> Point
+    ensures { λ r. ⌜ r ≡ normalOf e ⌝ }
+{
+    let near = Piece::Line(e.a.x, e.a.y, e.b.x, e.b.y).nearest(p);
+    near.n
+}
+
 // The distance m of p from the nearest point q of the edge e, signed, and the normal.
 fn signed(e: Edge, q: Point, m: f64, p: Point, inside: bool) -> Distance
     requires { ⌜ (edgeInField e ≡ true) × (pointInField p ≡ true) × (q ≡ footOf e p) ⌝ }
@@ -220,7 +229,7 @@ fn signed(e: Edge, q: Point, m: f64, p: Point, inside: bool) -> Distance
             },
         };
     }
-    let v = line::normal(e);
+    let v = own_normal(e, p);
     if m > 0.0 {
         return Distance { d, v };
     }

@@ -27,7 +27,6 @@ use Rattle.boundary.specs.declared.Near.{Near}
 use Rattle.boundary.specs.declared.Distance.{Distance}
 use Rattle.lists.specs.Lists.{fold, any, Every, Some}
 use Rattle.boundary.specs.Line.{lineNear}
-use Rattle.distance.specs.Piece.{pieceNear}
 use Rattle.distance.specs.Nearest.{nearer, farAway, nearestOf, roundingOf, flipped, signedOf}
 use Rattle.geometry.specs.Polygon.{containsOf}
 use Rattle.grid.specs.Whole.{PointZ, EdgeZ, onEdgeZ, boundaryZ, insideZ, locationZ}
@@ -160,7 +159,7 @@ module _ {p : Point} {q : PointZ} (P : PointOn p q) where
       }
 
   nearest-near : {es : List Edge} {fs : List EdgeZ} → EdgesOn es fs → Long fs → 0 < length es → Magnitude fs q (nearestOf es p .d)
-  unfolding nearestOf pieceNear fold Every
+  unfolding nearestOf fold Every
   nearest-near none h l = absurd (omega arith)
   nearest-near {es = e ∷ es} {fs = f ∷ fs} (more E r) (l, ls) some =
       let n = edge-near E P l in

@@ -118,21 +118,24 @@ no-items : (xs : List ℕ) → length xs ≤ 0 → xs ≡ []
 no-items [] h = refl
 no-items (x ∷ xs) h = absurd (omega arith)
 
-module _ (v : List Float) (c : Bounds) (passed : boxesTested v ≡ Passed) (B : IndexBuffer) where
-  -- the walk of the index finds what `meeting` says
-  pub found-is : (d : ℕ) → levels (indexOf v) ≤ d → found d (length v) (holding (indexOf v) B) c ≡ meetingOf c (indexOf v)
+module _ (v : List Float) (c : Bounds) (passed : boxesTested v ≡ Passed) where
+  -- the walk of a buffer in which the index stands finds what `meeting` says
+  pub found-standing : (B : IndexBuffer) → ((length v ≡ 0 → ⊥) → Stands B 0 (indexOf v)) → (d : ℕ) → levels (indexOf v) ≤ d → found d (length v) B c ≡ meetingOf c (indexOf v)
   unfolding found
-  found-is d h = go (eqb (length v) 0) refl
+  found-standing B stands d h = go (eqb (length v) 0) refl
     where
-      go : (b : Bool) → eqb (length v) 0 ≡ b → cond b [] (hits d (holding (indexOf v) B) c 0) ≡ meetingOf c (indexOf v)
+      go : (b : Bool) → eqb (length v) 0 ≡ b → cond b [] (hits d B c 0) ≡ meetingOf c (indexOf v)
       go true e =
           let z : length v ≡ 0 = eqb-true (length v) 0 e in
           let n = length-index-items v in
           let l = length-meeting c (indexOf v) in
           sym (no-items (meetingOf c (indexOf v)) (omega arith))
-      go false e =
-          hits-is c (holding (indexOf v) B) (indexOf v) d 0 (index-stands v B passed (eqb-false (length v) 0 e)) h
-          ∙ visited-is c (indexOf v) (nested v passed)
+      go false e = hits-is c B (indexOf v) d 0 (stands (eqb-false (length v) 0 e)) h ∙ visited-is c (indexOf v) (nested v passed)
+
+module _ (v : List Float) (c : Bounds) (passed : boxesTested v ≡ Passed) (B : IndexBuffer) where
+  -- so does the walk of what building leaves
+  pub found-is : (d : ℕ) → levels (indexOf v) ≤ d → found d (length v) (holding (indexOf v) B) c ≡ meetingOf c (indexOf v)
+  found-is = found-standing v c passed (holding (indexOf v) B) (index-stands v B passed)
 
   pub listed-of : (d : ℕ) (D E : IndexBuffer) (S S′ : List ℕ) (k r : ℕ) → levels (indexOf v) ≤ d
       → Accepted v (length (B .corners)) (length (B .links)) (length (B .items)) → 1024 ≤ length S

@@ -91,7 +91,7 @@ fn visit(
 }
 
 // The walk from the root, at most `depth` levels deep, where there are boxes: n counts their numbers.
-fn walk(
+pub fn walk(
     n: usize,
     depth: usize,
     corners: &[f64],
@@ -110,7 +110,7 @@ fn walk(
 }
 
 // Lists what meets the cell; the index is built in the lent buffers, and cleared.
-pub fn listed(
+fn listed(
     boxes: &[f64],
     c: Bounds,
     corners: &mut [f64],

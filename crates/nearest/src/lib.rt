@@ -3,19 +3,21 @@ pub mod answers;
 
 ghost use mathlib.Core.Path.{_≡_};
 ghost use mathlib.Core.Bool.{true};
-ghost use Prim.Native.Nat.{_*_, _≤_, _<_};
+ghost use Prim.Native.Nat.{_≤_, _<_};
 ghost use lib.ListN.{length};
 ghost use Rattle.boundary.specs.Boxes.{pointInField};
 ghost use Rattle.index.specs.Buffer.{buffer};
 ghost use Rattle.set.specs.Set.{outlinesOf};
-ghost use Rattle.set.specs.Answers.{worked, Ready, Space};
+ghost use Rattle.set.specs.Answers.{worked, Ready};
 ghost use Rattle.search.specs.Least.{leastIn};
 ghost use Rattle.nearest.specs.Nearest.{nearestIn};
 ghost use Rattle.nearest.specs.Answers.{nearestOutcome};
 use accept::Refusal;
 use accept::Test;
 use boundary::Point;
+use index::building;
 use search::Best;
+use set::frame;
 use set::outlines;
 use set::refusals::query_tested;
 
@@ -34,72 +36,32 @@ pub enum Nearest {
     At(Best),
 }
 
-// The nearest of the set's outlines; the index is built in the lent buffers, and cleared. The first two
-// lists are lent for the boxes and the starts.
+// The nearest of the outlines of a set that passed the tests: its index is built in the lent buffers, and
+// cleared. The first list is lent for the starts.
 fn found_in(
     v: &[f64],
     counts: &[u32],
     p: Point,
-    boxes: &mut [f64],
     starts: &mut [u32],
     corners: &mut [f64],
     links: &mut [u32],
     items: &mut [u32],
 ) -> Best
     requires { ⌜ Ready (now v) (now counts) (buffer (now corners) (now links) (now items)) × (pointInField p ≡ true)
-        × (0 < length (now counts)) × Space (now counts) (now boxes) (now starts) ⌝ }
+        × (0 < length (now counts)) × (length (now counts) ≤ length (now starts)) ⌝ }
     ensures { λ r. ⌜ record { answer = r; lent = buffer (now (corners .exit)) (now (links .exit)) (now (items .exit)) }
         ≡ worked (leastIn (outlinesOf (now (v .entry)) (now (counts .entry))) p) (buffer (now (corners .entry)) (now (links .entry)) (now (items .entry))) ⌝ }
 {
-    let n = 4 * counts.len();
     search::all_held(v);
-    outlines::put_boxes(v, counts, boxes);
     outlines::put_starts(counts, starts);
-    let b = &boxes[..];
-    index::building::grow(&b[0..n], corners, links, items);
+    frame::index_set(v, counts, corners, links, items);
     let best = search::search(v, counts, starts, p, corners, links, items);
-    index::building::clear(corners, links, items);
+    building::clear(corners, links, items);
     best
 }
 
-// The same, with its own space for them: of at most 32 outlines, and of any set. The space is as large as
-// is needed, since it is filled with zeros first.
-fn found_few(
-    v: &[f64],
-    counts: &[u32],
-    p: Point,
-    corners: &mut [f64],
-    links: &mut [u32],
-    items: &mut [u32],
-) -> Best
-    requires { ⌜ Ready (now v) (now counts) (buffer (now corners) (now links) (now items)) × (pointInField p ≡ true)
-        × (0 < length (now counts)) × (length (now counts) ≤ 32) ⌝ }
-    ensures { λ r. ⌜ record { answer = r; lent = buffer (now (corners .exit)) (now (links .exit)) (now (items .exit)) }
-        ≡ worked (leastIn (outlinesOf (now (v .entry)) (now (counts .entry))) p) (buffer (now (corners .entry)) (now (links .entry)) (now (items .entry))) ⌝ }
-{
-    let mut boxes = [0.0; 128];
-    let mut starts = [0; 32];
-    found_in(v, counts, p, &mut boxes, &mut starts, corners, links, items)
-}
-
-fn found_many(
-    v: &[f64],
-    counts: &[u32],
-    p: Point,
-    corners: &mut [f64],
-    links: &mut [u32],
-    items: &mut [u32],
-) -> Best
-    requires { ⌜ Ready (now v) (now counts) (buffer (now corners) (now links) (now items)) × (pointInField p ≡ true)
-        × (0 < length (now counts)) ⌝ }
-    ensures { λ r. ⌜ record { answer = r; lent = buffer (now (corners .exit)) (now (links .exit)) (now (items .exit)) }
-        ≡ worked (leastIn (outlinesOf (now (v .entry)) (now (counts .entry))) p) (buffer (now (corners .entry)) (now (links .entry)) (now (items .entry))) ⌝ }
-{
-    let mut boxes = [0.0; 4096];
-    let mut starts = [0; 1024];
-    found_in(v, counts, p, &mut boxes, &mut starts, corners, links, items)
-}
-
+// The same, with its own space for the starts: that of 32 outlines, where it is enough, since it is filled
+// with zeros first.
 fn found(
     v: &[f64],
     counts: &[u32],
@@ -114,9 +76,11 @@ fn found(
         ≡ worked (leastIn (outlinesOf (now (v .entry)) (now (counts .entry))) p) (buffer (now (corners .entry)) (now (links .entry)) (now (items .entry))) ⌝ }
 {
     if counts.len() <= 32 {
-        return found_few(v, counts, p, corners, links, items);
+        let mut starts = [0; 32];
+        return found_in(v, counts, p, &mut starts, corners, links, items);
     }
-    found_many(v, counts, p, corners, links, items)
+    let mut starts = [0; 1024];
+    found_in(v, counts, p, &mut starts, corners, links, items)
 }
 
 // The answer over a set that passed the tests.
@@ -133,7 +97,7 @@ fn answered(
         ≡ worked (nearestIn (outlinesOf (now (v .entry)) (now (counts .entry))) p) (buffer (now (corners .entry)) (now (links .entry)) (now (items .entry))) ⌝ }
 {
     if counts.len() == 0 {
-        index::building::clear(corners, links, items);
+        building::clear(corners, links, items);
         return Nearest::None;
     }
     Nearest::At(found(v, counts, p, corners, links, items))

@@ -30,7 +30,6 @@ use Rattle.lists.specs.Lists.{run, fold}
 use Rattle.boundary.specs.Line.{footOf, lineNear}
 use Rattle.distance.specs.Nearest.{nearer, farAway, nearestOf, roundingOf, flipped, awayAlong, signedOf}
 use Rattle.boundary.specs.Outline.{count, after, vertexAt, edgeAt, vertices, edges}
-use Rattle.distance.specs.Piece.{pieceNear}
 use Rattle.boundary.proofs.BoxLaws.{around-inside}
 use Rattle.boundary.proofs.FieldLaws.{field-not-nan}
 use Rattle.distance.proofs.SearchLaws.{foot-near, near-finite, nearerStep}
@@ -148,7 +147,7 @@ module _ (o : Outline) (N : (i : ℕ) → i < length o → FieldValue (getD o i 
   module _ (p : Point) (P : FieldPoint p) (some : 0 < count o) where
     -- what holds of the distance of every edge holds of the nearest
     later : (Q : Near → Type 0) → ((i : ℕ) → i < count o → Q (lineNear (edgeAt o i) p)) → (i m : ℕ) → i + m ≤ count o → (best : Near) → Q best → Q (fold (nearerStep p) best (run (edgeAt o) i m))
-    unfolding fold run pieceNear
+    unfolding fold run
     later Q h i zero l best q = q
     later Q h i (suc m) l best q = later Q h (suc i) m (omega arith) (nearer best (lineNear (edgeAt o i) p)) (pick (lt (lineNear (edgeAt o i) p .d) (best .d)))
       where
@@ -157,7 +156,7 @@ module _ (o : Outline) (N : (i : ℕ) → i < length o → FieldValue (getD o i 
         pick false = q
 
     from-first : (Q : Near → Type 0) → ((i : ℕ) → i < count o → Q (lineNear (edgeAt o i) p)) → (n : ℕ) → 0 < n → n ≤ count o → Q (fold (nearerStep p) (farAway p) (run (edgeAt o) 0 n))
-    unfolding fold run pieceNear
+    unfolding fold run
     from-first Q h zero l m = absurd (omega arith)
     from-first Q h (suc n) l m = later Q h 1 n (omega arith) (nearer (farAway p) (lineNear (edgeAt o 0) p)) (rw (near-finite (edge-field 0 (omega arith)) P) (h 0 (omega arith)))
 

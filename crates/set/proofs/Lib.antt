@@ -8,3 +8,5 @@ pub mod BoundsLaws
 pub mod SetLaws
 -- What a query has and leaves, and the boxes and starts that it writes.
 pub mod AskLaws
+-- The index of a set, built in a lent index buffer.
+pub mod FrameLaws

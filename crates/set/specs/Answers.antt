@@ -1,15 +1,16 @@
 -- What the work of a query over a set needs, and what the query leaves. Definitions only.
 use mathlib.Core.Path.{_≡_}
 use mathlib.Core.List.{List}
-use Prim.Native.Nat.{ℕ, _*_, _≤_, _<_}
+use Prim.Native.Nat.{ℕ, _≤_, _<_}
 use lib.ListN.{length, getD}
 use lib.Ieee.{Float}
 use Rattle.boundary.specs.declared.Point.{Point}
 use Rattle.accept.specs.declared.Refusal.{Refusal}
 use Rattle.accept.specs.Answers.{Outcome}
 use Rattle.accept.specs.Refusals.{given}
-use Rattle.index.specs.Buffer.{IndexBuffer, cleared, cornerPlaces, linkPlaces, itemPlaces}
-use Rattle.set.specs.Set.{startOf, outlinesOf, Fit, Fitting}
+use Rattle.tree.specs.Tree.{indexOf}
+use Rattle.index.specs.Buffer.{IndexBuffer, cleared, cornerPlaces, linkPlaces, itemPlaces, Stands}
+use Rattle.set.specs.Set.{Outline, startOf, outlinesOf, setBoxes, Fit, Fitting}
 use Rattle.set.specs.Tests.{setQueryTested}
 
 -- ---- all that a query leaves, with the index buffer B to work in
@@ -30,10 +31,10 @@ pub record Ready (v : List Float) (cs : List ℕ) (B : IndexBuffer) : Type 0 whe
   pub links : linkPlaces ≤ length (B .links)
   pub items : itemPlaces ≤ length (B .items)
 
--- lists long enough for the outlines' boxes and for their starts
-abbrev pub Space : List ℕ → List Float → List ℕ → Type 0
-Space cs X S = (4 * length cs ≤ length X) × (length cs ≤ length S)
-
 -- S holds how many vertices stand before each outline
 pub record Starts (cs S : List ℕ) : Type 0 where
   pub each : (k : ℕ) → k < length cs → getD S k 0 ≡ startOf cs k
+
+-- the index of the set stands in the buffer, where the set has an outline
+abbrev pub Indexed : List Outline → IndexBuffer → Type 0
+Indexed os B = 0 < length os → Stands B 0 (indexOf (setBoxes os))

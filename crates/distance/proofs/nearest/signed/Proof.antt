@@ -25,20 +25,20 @@ returns c =
     let a = f .before .args in
     rw (← d .before .is-clear .ensures, d .if1 .taken, f .flip .ensures, away-signed (a .inside) _ (a .m), away-signed (a .inside) _ (a .m))
 
-normal-requires : tie.Need-normal-requires
-normal-requires c κs = search needs
+own-normal-requires : tie.Need-own-normal-requires
+own-normal-requires c κs = search needs
 
 returns-2 : tie.Need-returns-2
 unfolding signedOf ofBits
 returns-2 c =
     let e = c .before .before in
-    rw (← e .before .is-clear .ensures, e .if1 .left, c .if2 .taken, c .before .normal .ensures, e .before .before .flip .ensures)
+    rw (← e .before .is-clear .ensures, e .if1 .left, c .if2 .taken, c .before .own-normal .ensures, e .before .before .flip .ensures)
 
 returns-3 : tie.Need-returns-3
 unfolding signedOf ofBits
 returns-3 c =
     let e = c .before .before in
-    rw (← e .before .is-clear .ensures, e .if1 .left, c .if2 .left, c .before .normal .ensures)
+    rw (← e .before .is-clear .ensures, e .if1 .left, c .if2 .left, c .before .own-normal .ensures)
 
 pub signed-spec : {M : Type 1} → statement M
-signed-spec = tie.close (tie.spec flip-requires is-clear-requires returns normal-requires returns-2 returns-3)
+signed-spec = tie.close (tie.spec flip-requires is-clear-requires returns own-normal-requires returns-2 returns-3)
