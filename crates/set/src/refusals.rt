@@ -13,8 +13,8 @@ ghost use Rattle.set.specs.OnePass.{firstFailed, leastFailed, testAt, ra
 use crate::outlines::outline_from;
 use accept::Refusal;
 use accept::Test;
-use accept::refusals::in_field;
 use accept::refusals::number_of;
+use accept::refusals::point_in_field;
 use accept::refusals::refusing;
 use accept::refusals::sign_tested;
 use accept::refusals::test_of;
@@ -147,8 +147,8 @@ pub fn query_tested(
 ) -> Test
     ensures { λ r. ⌜ r ≡ setQueryTested (now (v .entry)) (now (counts .entry)) p (buffer (now (corners .entry)) (now (links .entry)) (now (items .entry))) ⌝ }
 {
-    let inside = in_field(p.x) & in_field(p.y);
-    let t = refusing(set_tested(v, counts), Refusal::BadPoint, !inside);
+    let within = point_in_field(p);
+    let t = refusing(set_tested(v, counts), Refusal::BadPoint, !within);
     refusing(
         t,
         Refusal::ShortBuffer,

@@ -4,11 +4,8 @@ use Rattle.set.specs.Tests.{setQueryTested}
 use Rattle.set.proofs.refusals.query_tested.Statement.{statement}
 use Rattle.set.proofs.refusals.query_tested.Tie as tie
 
-in-field-requires : tie.Need-in-field-requires
-in-field-requires c κs = search needs
-
-in-field-requires-2 : tie.Need-in-field-requires-2
-in-field-requires-2 c κs = search needs
+point-in-field-requires : tie.Need-point-in-field-requires
+point-in-field-requires c κs = search needs
 
 set-tested-requires : tie.Need-set-tested-requires
 set-tested-requires c κs = search needs
@@ -27,14 +24,13 @@ unfolding setQueryTested
 returns c =
     let t = c .before .before in
     let s = t .before in
-    rw (c .refusing2 .ensures, c .before .short-index .ensures, t .refusing .ensures, s .set-tested .ensures, s .before .in-field2 .ensures, s .before .before .in-field .ensures)
+    rw (c .refusing2 .ensures, c .before .short-index .ensures, t .refusing .ensures, s .set-tested .ensures, s .before .point-in-field .ensures)
 
 pub query-tested-spec : {M : Type 1} → statement M
 query-tested-spec =
     tie.close
     (tie.spec
-    in-field-requires
-    in-field-requires-2
+    point-in-field-requires
     set-tested-requires
     refusing-requires
     short-index-requires
