@@ -3,7 +3,7 @@ pub mod ellipse;
 pub mod nearest;
 
 ghost use mathlib.Core.Path.{_≡_};
-ghost use Rattle.distance.specs.Piece.{pieceNear};
+ghost use Rattle.distance.specs.Piece.{pieceNear, pieceNormal};
 use boundary::Edge;
 use boundary::Near;
 use boundary::Point;
@@ -28,6 +28,20 @@ impl Piece {
                 line::line_nearest(Edge { a, b }, p)
             }
             Piece::Ellipse { c, a, b } => ellipse::ellipse_near(c, a, b, p),
+        }
+    }
+
+    // The normal that `nearest` gives, whatever the point: a line's own, and (1, 0) for an ellipse.
+    pub fn normal(self) -> Point
+        ensures { λ r. ⌜ r ≡ pieceNormal self ⌝ }
+    {
+        match self {
+            Piece::Line(ax, ay, bx, by) => {
+                let a = Point { x: ax, y: ay };
+                let b = Point { x: bx, y: by };
+                line::normal(Edge { a, b })
+            }
+            Piece::Ellipse { c, a, b } => Point { x: 1.0, y: 0.0 },
         }
     }
 }

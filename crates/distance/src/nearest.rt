@@ -206,12 +206,11 @@ fn flip(inside: bool, x: f64) -> f64
     pick(inside, -x, x)
 }
 
-// The edge's own normal: that of its nearest point, as a piece. Few points ask for it.
-fn own_normal(e: Edge, p: Point) -> Point
+// The edge's own normal: that of the edge as a piece.
+fn own_normal(e: Edge) -> Point
     ensures { λ r. ⌜ r ≡ normalOf e ⌝ }
 {
-    let near = Piece::Line(e.a.x, e.a.y, e.b.x, e.b.y).nearest(p);
-    near.n
+    Piece::Line(e.a.x, e.a.y, e.b.x, e.b.y).normal()
 }
 
 // The distance m of p from the nearest point q of the edge e, signed, and the normal.
@@ -229,7 +228,7 @@ fn signed(e: Edge, q: Point, m: f64, p: Point, inside: bool) -> Distance
             },
         };
     }
-    let v = own_normal(e, p);
+    let v = own_normal(e);
     if m > 0.0 {
         return Distance { d, v };
     }
