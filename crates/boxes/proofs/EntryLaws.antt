@@ -1,11 +1,11 @@
 -- The lists that hold the widened boxes and their centres give them back, for every number. Assumes nothing.
 use mathlib.Core.Path.{_≡_, refl, sym, ap, _∙_}
 use mathlib.Core.Bool.{Bool, true, false}
-use mathlib.Core.List.{List, [], append-nil, flatMap}
+use mathlib.Core.List.{List, [], _++_, append-nil, flatMap}
 use Prim.Native.Nat.{ℕ, _+_, _*_, _%_, _≤_, _<_}
 use native.Mathlib.Omega.{arith}
 use lib.Dec.{ltb}
-use lib.ListN.{length, getD, List·getD-eq-default}
+use lib.ListN.{length, getD, List·getD-append, List·getD-eq-default}
 use lib.Ieee.{Float, nan, add, mul}
 use borrow.Author.Tests.{ltb-true, ltb-false}
 use Rattle.boundary.specs.declared.Bounds.{Bounds}
@@ -25,6 +25,13 @@ unfolding boxAt
 no-box v i h =
     let at : (k : ℕ) → length v ≤ k → getD v k nan ≡ nan = λ k l. List·getD-eq-default v nan l in
     rw (at (4 * i) h, at (4 * i + 1) (omega arith), at (4 * i + 2) (omega arith), at (4 * i + 3) (omega arith))
+
+-- box i of a list, whatever stands after it
+pub box-front : (v rest : List Float) (i : ℕ) → 4 * i + 3 < length v → boxAt (v ++ rest) i ≡ boxAt v i
+unfolding boxAt
+box-front v rest i h =
+    let at : (k : ℕ) → k < length v → getD (v ++ rest) k nan ≡ getD v k nan = λ k l. List·getD-append v rest nan k l in
+    rw (at (4 * i) (omega arith), at (4 * i + 1) (omega arith), at (4 * i + 2) (omega arith), at (4 * i + 3) (omega arith))
 
 no-wide : widenedOf noBox ≡ noBox
 unfolding widenedOf

@@ -15,6 +15,8 @@ use Rattle.lists.specs.Lists.{run}
 use Rattle.accept.specs.declared.Refusal.{Refusal}
 use Rattle.accept.specs.declared.Test.the-variants.{Passed, Failed}
 use Rattle.accept.proofs.TestLaws.{refusing-passed, given-passed, given-failed}
+use Rattle.boxes.specs.BoxLists.{boxAt}
+use Rattle.boxes.proofs.EntryLaws.{box-front}
 use Rattle.index.specs.Answers.{Accepted}
 use Rattle.index.specs.Buffer.{IndexBuffer}
 use Rattle.lists.proofs.FoldLaws.{or-none}
@@ -23,8 +25,8 @@ use Rattle.lists.proofs.RunLaws.{length-run, run-at}
 use Rattle.index.proofs.GrowLaws.{front-of}
 use Rattle.set.specs.Set.{startOf, outlinesOf, setBoxes}
 use Rattle.set.specs.Tests.{setQueryTested}
-use Rattle.set.specs.Answers.{worked, queryOutcome, Ready, Starts}
-use Rattle.set.proofs.SetLaws.{outlines-length, passed-fit, passed-fitting, boxes-length}
+use Rattle.set.specs.Answers.{worked, queryOutcome, Ready, Starts, Boxed}
+use Rattle.set.proofs.SetLaws.{outlines-length, passed-fit, passed-fitting, boxes-length, box-at-set}
 
 -- ---- what a query that passes the tests has
 pub record QueryPassed (v : List Float) (cs : List ℕ) (p : Point) (B : IndexBuffer) : Type 0 where
@@ -69,6 +71,16 @@ module _ (v : List Float) (cs : List ℕ) where
   -- the front of a list that they are put into
   pub boxes-front : (X₀ X : List Float) → 4 * length cs ≤ length X₀ → X ≡ sets X₀ 0 (setBoxes (outlinesOf v cs)) → take (4 * length cs - 0) (drop 0 X) ≡ setBoxes (outlinesOf v cs)
   boxes-front X₀ X room e = front-of X₀ X (setBoxes (outlinesOf v cs)) (4 * length cs) e boxes-size room
+
+  -- and every place there
+  pub boxes-put : (X₀ X : List Float) → 4 * length cs ≤ length X₀ → X ≡ sets X₀ 0 (setBoxes (outlinesOf v cs)) → Boxed (outlinesOf v cs) X
+  boxes-put X₀ X room e = record {
+    each = λ k l.
+        let boxes = setBoxes (outlinesOf v cs) in
+        let n = boxes-size in
+        let m = outlines-length v cs in
+        ap (λ (s : List Float). boxAt s k) (e ∙ sets-front X₀ boxes (omega arith)) ∙ box-front boxes (drop (length boxes) X₀) k (omega arith) ∙ box-at-set (outlinesOf v cs) k l;
+  }
 
   -- an index of them can be built
   pub boxes-accepted : (B : IndexBuffer) → Ready v cs B → Accepted (setBoxes (outlinesOf v cs)) (length (B .corners)) (length (B .links)) (length (B .items))

@@ -8,9 +8,10 @@ use Rattle.boundary.specs.declared.Point.{Point}
 use Rattle.accept.specs.declared.Refusal.{Refusal}
 use Rattle.accept.specs.Answers.{Outcome}
 use Rattle.accept.specs.Refusals.{given}
+use Rattle.boxes.specs.BoxLists.{boxAt}
 use Rattle.tree.specs.Tree.{indexOf}
 use Rattle.index.specs.Buffer.{IndexBuffer, cleared, cornerPlaces, linkPlaces, itemPlaces, Stands}
-use Rattle.set.specs.Set.{Outline, startOf, outlinesOf, setBoxes, Fit, Fitting}
+use Rattle.set.specs.Set.{Outline, startOf, outlinesOf, setBox, setBoxes, Fit, Fitting}
 use Rattle.set.specs.Tests.{setQueryTested}
 
 -- ---- all that a query leaves, with the index buffer B to work in
@@ -34,6 +35,10 @@ pub record Ready (v : List Float) (cs : List ℕ) (B : IndexBuffer) : Type 0 whe
 -- S holds how many vertices stand before each outline
 pub record Starts (cs S : List ℕ) : Type 0 where
   pub each : (k : ℕ) → k < length cs → getD S k 0 ≡ startOf cs k
+
+-- X holds the box of each outline
+pub record Boxed (os : List Outline) (X : List Float) : Type 0 where
+  pub each : (k : ℕ) → k < length os → boxAt X k ≡ setBox os k
 
 -- the index of the set stands in the buffer, where the set has an outline
 abbrev pub Indexed : List Outline → IndexBuffer → Type 0

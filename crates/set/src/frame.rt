@@ -5,11 +5,11 @@ ghost use lib.ListN.{length};
 ghost use Rattle.tree.specs.Tree.{indexOf};
 ghost use Rattle.index.specs.Buffer.{buffer, holding};
 ghost use Rattle.set.specs.Set.{outlinesOf, setBoxes};
-ghost use Rattle.set.specs.Answers.{Ready};
+ghost use Rattle.set.specs.Answers.{Ready, Boxed};
 use crate::outlines::put_boxes;
 
-// Builds it with lent space for the boxes.
-fn index_in(
+// Builds it with lent space for the boxes, which stand there then.
+pub fn index_in(
     v: &[f64],
     counts: &[u32],
     boxes: &mut [f64],
@@ -18,8 +18,9 @@ fn index_in(
     items: &mut [u32],
 )
     requires { ⌜ Ready (now v) (now counts) (buffer (now corners) (now links) (now items)) × (4 * length (now counts) ≤ length (now boxes)) ⌝ }
-    ensures { λ _. ⌜ buffer (now (corners .exit)) (now (links .exit)) (now (items .exit))
-        ≡ holding (indexOf (setBoxes (outlinesOf (now (v .entry)) (now (counts .entry))))) (buffer (now (corners .entry)) (now (links .entry)) (now (items .entry))) ⌝ }
+    ensures { λ _. ⌜ (buffer (now (corners .exit)) (now (links .exit)) (now (items .exit))
+        ≡ holding (indexOf (setBoxes (outlinesOf (now (v .entry)) (now (counts .entry))))) (buffer (now (corners .entry)) (now (links .entry)) (now (items .entry))))
+        × Boxed (outlinesOf (now (v .entry)) (now (counts .entry))) (now (boxes .exit)) ⌝ }
 {
     let n = 4 * counts.len();
     put_boxes(v, counts, boxes);

@@ -1,5 +1,6 @@
 -- `set::frame::index_in` meets its contract. Assumes nothing.
 use Rattle.index.specs.Buffer.{buffer}
+use Rattle.set.proofs.AskLaws.{boxes-put}
 use Rattle.set.proofs.FrameLaws.{grown-set}
 use borrow.Author.Needs.{needs}
 use Rattle.set.proofs.frame.index_in.Statement.{statement}
@@ -41,8 +42,10 @@ returns c =
     let x = g .before .before .before .before .before .before .before .before in
     let s = x .before .before .before .before .before .before .before .before in
     let a = s .args in
-    let B = buffer (a .corners .now) (a .links .now) (a .items .now) in
-    grown-set (a .v .now) (a .counts .now) B (a .boxes .now) _ (s .pre .1) (x .put-boxes .ensures) _ _ (g .grow-or-leaf .ensures)
+    let B = buffer (a .corners .now) (a .links .now) (a .items .now) in (
+      grown-set (a .v .now) (a .counts .now) B (a .boxes .now) _ (s .pre .1) (x .put-boxes .ensures) _ _ (g .grow-or-leaf .ensures),
+      boxes-put (a .v .now) (a .counts .now) (a .boxes .now) _ (s .pre .1) (x .put-boxes .ensures),
+    )
 
 pub index-in-spec : {M : Type 1} → statement M
 index-in-spec =
