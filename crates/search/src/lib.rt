@@ -139,7 +139,7 @@ fn wait_both(corners: &[f64], p: Point, first: u32, nodes: &mut [u32], gaps: &mu
 
 // The nearest of the set's outlines, by a search of an index of it: the nodes that wait are in a heap, and the
 // search ends where the least gap is above the best distance.
-fn search_in(
+pub fn search_in(
     v: &[f64],
     counts: &[u32],
     starts: &[u32],
