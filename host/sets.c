@@ -299,7 +299,7 @@ static void test_many(int line, query q, const double *points, size_t len, lengt
                 len == 0 || memcmp(points, points_before, len * sizeof *points) == 0, 1);
 }
 
-/* Points around and in the set of S: no two neighbours have the same answer. */
+/* Points around S and S moved: of two that follow each other, each is nearest to another of the two. */
 static double around[2 * MOST + 8];
 
 static void place_points(void)
