@@ -21,6 +21,7 @@ pub enum Refusal {
     BadEllipse,
     ShortBuffer,
     LongList,
+    BadPointCount,
 }
 
 // What the tests say.

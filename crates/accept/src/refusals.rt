@@ -43,6 +43,7 @@ pub fn number_of(r: Refusal) -> u32
         Refusal::BadEllipse => 12,
         Refusal::ShortBuffer => 13,
         Refusal::LongList => 14,
+        Refusal::BadPointCount => 15,
     }
 }
 

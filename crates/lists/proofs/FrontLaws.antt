@@ -5,8 +5,8 @@ use Prim.Native.Nat.{ℕ, zero, suc, _+_, _-_, _≤_, _<_}
 use native.Mathlib.Nat.{not-suc-le-zero, le-of-suc-le-suc}
 use native.Mathlib.Numerals.{add-one}
 use native.Mathlib.Omega.{arith}
-use lib.ListN.{length, set, drop, replicate, length-set, length-replicate}
-use lib.Seq.{drop-append-add, drop-drop}
+use lib.ListN.{length, getD, set, drop, replicate, length-set, length-replicate, List·getD-append}
+use lib.Seq.{drop-append-add, drop-drop, getD-append-add, getD-drop}
 use Rattle.lists.specs.Lists.{atFront, zeros}
 
 -- what is written over is gone
@@ -15,6 +15,18 @@ unfolding atFront
 front-front zs xs s h l =
     let k : length zs ≡ length xs + (length zs - length xs) = omega arith in
     ap (λ (r : List _). zs ++ r) (ap (λ (n : ℕ). drop n (xs ++ drop (length xs) s)) k ∙ drop-append-add xs (drop (length xs) s) (length zs - length xs) ∙ drop-drop (length zs - length xs) (length xs) s ∙ ap (λ (n : ℕ). drop n s) (sym k))
+
+-- place i: of what is written, and past it as it was
+module _ {A : Type 0} (xs s : List A) (d : A) (i : ℕ) where
+  pub front-at : i < length xs → getD (atFront xs s) i d ≡ getD xs i d
+  unfolding atFront
+  front-at l = List·getD-append xs (drop (length xs) s) d i l
+
+  pub front-past : length xs ≤ i → getD (atFront xs s) i d ≡ getD s i d
+  unfolding atFront
+  front-past l =
+      let e : length xs + (i - length xs) ≡ i = omega arith in
+      ap (λ (k : ℕ). getD (xs ++ drop (length xs) s) k d) (sym e) ∙ getD-append-add xs (drop (length xs) s) (i - length xs) d ∙ getD-drop (length xs) s (i - length xs) d ∙ ap (λ (k : ℕ). getD s k d) e
 
 module _ {A : Type 0} (z : A) where
   set-next : (i : ℕ) (s : List A) → i < length s → set (replicate i z ++ drop i s) i z ≡ replicate (suc i) z ++ drop (suc i) s

@@ -1,6 +1,6 @@
--- Runs: how long one is, its members, its last member, cut in two, reversed. Assumes nothing.
+-- Runs: how long one is, its members, its last member, cut in two, reversed, mapped. Assumes nothing.
 use mathlib.Core.Path.{_≡_, refl, ap, _∙_}
-use mathlib.Core.List.{List, [], _∷_, _++_, reverse, reverse-cons}
+use mathlib.Core.List.{List, [], _∷_, _++_, map, reverse, reverse-cons}
 use Prim.Native.Nat.{ℕ, zero, suc, _+_, _-_, _≤_, _<_}
 use native.Mathlib.Nat.{add-zero}
 use native.Mathlib.Omega.{arith}
@@ -66,3 +66,8 @@ module _ {A : Type 0} where
 
   pub drop-run : (f : ℕ → A) (j n : ℕ) → j ≤ n → drop j (run f 0 n) ≡ run f j (n - j)
   drop-run f j n l = rw (run-split f j n l) (drop-at (run f 0 j) (run f j (n - j)) j (length-run f 0 j))
+
+pub map-run : {A B : Type 0} (h : A → B) (g : ℕ → A) (i k : ℕ) → map h (run g i k) ≡ run (λ j. h (g j)) i k
+unfolding run
+map-run h g i zero = refl
+map-run h g i (suc k) = rw (map-run h g (suc i) k)

@@ -1,6 +1,6 @@
 -- What a query over a set that passes the tests has, what a query leaves, and the boxes and starts that it writes. Assumes nothing.
 use mathlib.Core.Path.{_≡_, ap, _∙_}
-use mathlib.Core.Bool.{true, _||_}
+use mathlib.Core.Bool.{true, false, _||_}
 use mathlib.Core.List.{List}
 use Prim.Native.Nat.{ℕ, _+_, _-_, _*_, _≤_, _<_}
 use native.Mathlib.Omega.{arith}
@@ -14,21 +14,35 @@ use Rattle.boundary.specs.Boxes.{pointInField}
 use Rattle.lists.specs.Lists.{run}
 use Rattle.accept.specs.declared.Refusal.{Refusal}
 use Rattle.accept.specs.declared.Test.the-variants.{Passed, Failed}
+use Rattle.accept.specs.Refusals.{_refusing_when_}
 use Rattle.accept.proofs.TestLaws.{refusing-passed, given-passed, given-failed}
 use Rattle.boxes.specs.BoxLists.{boxAt}
 use Rattle.boxes.proofs.EntryLaws.{box-front}
 use Rattle.index.specs.Answers.{Accepted}
-use Rattle.index.specs.Buffer.{IndexBuffer}
+use Rattle.index.specs.Buffer.{IndexBuffer, shortBuffer}
 use Rattle.lists.proofs.FoldLaws.{or-none}
 use Rattle.lists.proofs.StoreLaws.{sets-front}
 use Rattle.lists.proofs.RunLaws.{length-run, run-at}
 use Rattle.index.proofs.GrowLaws.{front-of}
 use Rattle.set.specs.Set.{startOf, outlinesOf, setBoxes}
-use Rattle.set.specs.Tests.{setQueryTested}
+use Rattle.set.specs.Tests.{setTested, setQueryTested}
 use Rattle.set.specs.Answers.{worked, queryOutcome, Ready, Starts, Boxed}
 use Rattle.set.proofs.SetLaws.{outlines-length, passed-fit, passed-fitting, boxes-length, box-at-set}
 
 -- ---- what a query that passes the tests has
+-- a set that passes them, and an index buffer
+pub set-ready : (v : List Float) (cs : List ℕ) (B : IndexBuffer) → setTested v cs ≡ Passed → shortBuffer B ≡ false → Ready v cs B
+set-ready v cs B passed long =
+    let s = or-none (ltb (length (B .corners)) 2044) (ltb (length (B .links)) 1022 || ltb (length (B .items)) 1024) long in
+    let t = or-none (ltb (length (B .links)) 1022) (ltb (length (B .items)) 1024) (s .1) in
+    record {
+      fit = passed-fit v cs passed;
+      fitting = passed-fitting v cs passed;
+      corners = ltb-false (length (B .corners)) 2044 (s .0);
+      links = ltb-false (length (B .links)) 1022 (t .0);
+      items = ltb-false (length (B .items)) 1024 (t .1);
+    }
+
 pub record QueryPassed (v : List Float) (cs : List ℕ) (p : Point) (B : IndexBuffer) : Type 0 where
   pub ready : Ready v cs B
   pub point : pointInField p ≡ true
@@ -38,18 +52,12 @@ unfolding setQueryTested
 query-passed v cs p B e =
     let r = refusing-passed _ _ _ e in
     let q = refusing-passed _ _ _ (r .0) in
-    let s = or-none (ltb (length (B .corners)) 2044) (ltb (length (B .links)) 1022 || ltb (length (B .items)) 1024) (r .1) in
-    let t = or-none (ltb (length (B .links)) 1022) (ltb (length (B .items)) 1024) (s .1) in
-    record {
-      ready = record {
-        fit = passed-fit v cs (q .0);
-        fitting = passed-fitting v cs (q .0);
-        corners = ltb-false (length (B .corners)) 2044 (s .0);
-        links = ltb-false (length (B .links)) 1022 (t .0);
-        items = ltb-false (length (B .items)) 1024 (t .1);
-      };
-      point = not-false (pointInField p) (q .1);
-    }
+    record { ready = set-ready v cs B (q .0) (r .1); point = not-false (pointInField p) (q .1) }
+
+-- and a query of a set and a point that pass theirs passes them
+pub query-passes : (v : List Float) (cs : List ℕ) (p : Point) (B : IndexBuffer) → setTested v cs ≡ Passed → pointInField p ≡ true → shortBuffer B ≡ false → setQueryTested v cs p B ≡ Passed
+unfolding setQueryTested _refusing_when_
+query-passes v cs p B s q b = rw (s, q, b)
 
 -- ---- what a query leaves
 module _ {A : Type 0} (v : List Float) (cs : List ℕ) (p : Point) (B : IndexBuffer) (a : A) (refused : Refusal → A) where
