@@ -169,7 +169,7 @@ ends-between a b p q = (record { low = low-a (lt b a) refl; high = high-a (lt a 
     high-b false e = not-below a b p q e
 
 -- between the ends, widened
-pub along-widened : {a b t w : Float} → FieldValue a → FieldValue b → Share t → Held w → T (le leastMargin w) → Between (sub binary64 (lesser a b) w) (alongOf a b t) (add binary64 (greater a b) w)
+along-widened : {a b t w : Float} → FieldValue a → FieldValue b → Share t → Held w → T (le leastMargin w) → Between (sub binary64 (lesser a b) w) (alongOf a b t) (add binary64 (greater a b) w)
 along-widened {a} {b} fa fb s hw W =
     let ends = ends-between a b (field-not-nan fa) (field-not-nan fb) in
     along-inside fa fb s hw W (one-of Held (lt b a) (field-held fb) (field-held fa)) (one-of Held (lt a b) (field-held fb) (field-held fa)) (ends .0) (ends .1)

@@ -29,11 +29,11 @@ use Rattle.number.proofs.Values.{held-not-nan, rounded-natAbs, is-rounds, round
 use Rattle.boundary.specs.declared.Point.{Point}
 use Rattle.boundary.specs.declared.Edge.{Edge}
 use Rattle.boundary.specs.declared.Bounds.{Bounds}
-use Rattle.boundary.specs.Line.{alongOf, footOf}
-use Rattle.boundary.specs.Boxes.{FieldValue, FieldPoint, FieldEdge, FieldBox, FiniteBox, Between, Share, Inside, lesser, greater, hull, edgeBox, leastMargin, nano, scaleOf, widenedBy, widenedOf, Around, gapAlong}
-use Rattle.boundary.proofs.FieldLaws.{field-held, field-is, field-box-finite, field-not-nan, is-field, field-abs, field-sub, field-add, widened-finite}
+use Rattle.boundary.specs.Line.{footOf}
+use Rattle.boundary.specs.Boxes.{FieldValue, FieldPoint, FieldEdge, FieldBox, FiniteBox, Between, Share, Inside, greater, hull, edgeBox, leastMargin, nano, scaleOf, widenedBy, widenedOf, Around, gapAlong}
+use Rattle.boundary.proofs.FieldLaws.{field-held, field-is, field-box-finite, field-not-nan, is-field, field-abs, widened-finite}
 use Rattle.number.proofs.Basics.{one-of}
-use Rattle.boundary.proofs.AlongLaws.{param-share, along-inside, along-widened, ends-between, along-fits, between-held, along-short}
+use Rattle.boundary.proofs.AlongLaws.{param-share, along-inside, ends-between, along-short}
 
 -- ---- an edge's box
 
@@ -198,15 +198,6 @@ module _ {lo hi p q : Float} (L : Held lo) (H : Held hi) (P : Held p) (Q : Held 
   out-size =
       let below-d : Float → Type 0 = λ v. T (le v (absOf d)) in
       abs-at-most out (absOf d) out-nonneg (one-of below-d (lt (greater (sub binary64 lo p) (sub binary64 p hi)) zeroᶠ) (abs-nonneg d d-number) (one-of below-d (lt (sub binary64 lo p) (sub binary64 p hi)) above below))
-
--- of an edge's ends, widened by any value of the field from 2 ^ -31 on, and the point at t
-pub along-out : {a b p t w : Float} → FieldValue a → FieldValue b → FieldValue p → Share t → FieldValue w → T (le leastMargin w)
-    → T (le (absOf (greater (greater (sub binary64 (sub binary64 (lesser a b) w) p) (sub binary64 p (add binary64 (greater a b) w))) zeroᶠ)) (absOf (sub binary64 p (alongOf a b t))))
-along-out {a} {b} {p} {t} fa fb fp s fw W =
-    let l = field-sub (one-of FieldValue (lt b a) fb fa) fw .held in
-    let h = field-add (one-of FieldValue (lt a b) fb fa) fw in
-    let i = along-widened fa fb s (field-held fw) W in
-    out-size l h (field-held fp) (between-held l h (along-fits a b t (fb .fits)) i) i
 
 -- the differences from the nearest point, for `hypot-clear`
 pub foot-short : {e : Edge} {p : Point} → FieldEdge e → FieldPoint p → Short (sub binary64 (p .x) (footOf e p .x)) × Short (sub binary64 (p .y) (footOf e p .y))

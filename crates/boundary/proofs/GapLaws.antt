@@ -6,15 +6,15 @@ use lib.Ieee.Scale.{finite}
 use Rattle.number.specs.Exact.{Held, zeroᶠ}
 use Rattle.number.specs.Signs.{absOf, maxOf}
 use Rattle.number.proofs.Operations.{finite-is, sub-rounds}
-use Rattle.number.proofs.HypotLaws.{hypot-mono}
+use Rattle.number.proofs.HypotLaws.{squares-mono, hypot-mono}
 use Rattle.number.proofs.OrderLaws.{le-self, le-through, right-not-nan}
 use Rattle.number.proofs.MagnitudeOrder.{max-one-of, abs-nonneg, abs-at-most, le-max-left, le-max-right}
 use Rattle.number.proofs.Values.{held-not-nan, rounds-not-nan}
 use Rattle.boundary.specs.declared.Point.{Point}
 use Rattle.boundary.specs.declared.Edge.{Edge}
 use Rattle.boundary.specs.declared.Bounds.{Bounds}
-use Rattle.boundary.specs.Boxes.{FieldPoint, FieldEdge, FieldBox, DoubleBox, Between, Inside, Around, widenedOf, gapAlong, gapOf}
-use Rattle.boundary.specs.Line.{paramOf, footOf, lineNear}
+use Rattle.boundary.specs.Boxes.{FieldPoint, FieldEdge, FieldBox, DoubleBox, Between, Inside, Around, widenedOf, gapAlong, gapOf, gapSquaresOf}
+use Rattle.boundary.specs.Line.{lessPoint, squaresOf, paramOf, footOf, lineNear}
 use Rattle.boundary.proofs.AlongLaws.{along-fits, between-held}
 use Rattle.boundary.proofs.AroundLaws.{NotNan, least}
 use Rattle.boundary.proofs.BoxLaws.{foot-inside, around-inside, widened-box-finite, gap-along}
@@ -104,15 +104,34 @@ module _ {p q : Float} (P : Held p) (Q : Held q) where
       abs-at-most (gapAlong lo hi p) (absOf d) (le-max-right (maxOf (sub binary64 lo p) (sub binary64 p hi)) zeroᶠ (unfold isNan in tt))
       (max-one-of below (max-one-of below (low lo L (i .low)) (high hi H (i .high))) (abs-nonneg d d-number))
 
--- ---- THE GAP of every box of `f64`s around the widened box of a box that has both ends of an edge is at most the edge's distance
-pub gap-around : {e : Edge} {p : Point} {n b : Bounds} → FieldEdge e → FieldPoint p → FieldBox b → Inside (e .a) b → Inside (e .b) b → DoubleBox n → Around n (widenedOf b) → T (le (gapOf n p) (lineNear e p .d))
-unfolding gapOf lineNear footOf
-gap-around {e} {p} {n} E P B ia ib N A =
-    let w = widened-box-finite B in
-    let i = foot-inside E P B ia ib in
-    let j = around-inside A i in
-    let x = between-held (w .min .x) (w .max .x) (along-fits (e .a .x) (e .b .x) (paramOf e p) (E .b .x .fits)) (i .x) in
-    let y = between-held (w .min .y) (w .max .y) (along-fits (e .a .y) (e .b .y) (paramOf e p) (E .b .y .fits)) (i .y) in
-    hypot-mono (gapAlong (n .min .x) (n .max .x) (p .x)) (gapAlong (n .min .y) (n .max .y) (p .y)) (sub binary64 (p .x) (footOf e p .x)) (sub binary64 (p .y) (footOf e p .y))
-    (gap-size (field-held (P .x)) x (n .min .x) (n .max .x) (N .min .x) (N .max .x) (j .x))
-    (gap-size (field-held (P .y)) y (n .min .y) (n .max .y) (N .min .y) (N .max .y) (j .y))
+-- ---- a box n of `f64`s around the widened box of a box that has both ends of an edge: of each axis, p is at most as far from n as from the edge's nearest point
+module _ {e : Edge} {p : Point} {n b : Bounds} (E : FieldEdge e) (P : FieldPoint p) (B : FieldBox b) (ia : Inside (e .a) b) (ib : Inside (e .b) b) (N : DoubleBox n) (A : Around n (widenedOf b)) where
+  in-widened : Inside (footOf e p) (widenedOf b)
+  in-widened = foot-inside E P B ia ib
+
+  in-box : Inside (footOf e p) n
+  in-box = around-inside A in-widened
+
+  gap-x : T (le (absOf (gapAlong (n .min .x) (n .max .x) (p .x))) (absOf (sub binary64 (p .x) (footOf e p .x))))
+  unfolding footOf
+  gap-x =
+      let w = widened-box-finite B in
+      let q = between-held (w .min .x) (w .max .x) (along-fits (e .a .x) (e .b .x) (paramOf e p) (E .b .x .fits)) (in-widened .x) in
+      gap-size (field-held (P .x)) q (n .min .x) (n .max .x) (N .min .x) (N .max .x) (in-box .x)
+
+  gap-y : T (le (absOf (gapAlong (n .min .y) (n .max .y) (p .y))) (absOf (sub binary64 (p .y) (footOf e p .y))))
+  unfolding footOf
+  gap-y =
+      let w = widened-box-finite B in
+      let q = between-held (w .min .y) (w .max .y) (along-fits (e .a .y) (e .b .y) (paramOf e p) (E .b .y .fits)) (in-widened .y) in
+      gap-size (field-held (P .y)) q (n .min .y) (n .max .y) (N .min .y) (N .max .y) (in-box .y)
+
+  -- THE GAP is at most the edge's distance
+  pub gap-around : T (le (gapOf n p) (lineNear e p .d))
+  unfolding gapOf lineNear
+  gap-around = hypot-mono _ _ _ _ gap-x gap-y
+
+  -- and the squared gap at most the squared distance
+  pub squares-around : T (le (gapSquaresOf n p) (squaresOf (lessPoint p (footOf e p))))
+  unfolding gapSquaresOf
+  squares-around = squares-mono _ _ _ _ gap-x gap-y

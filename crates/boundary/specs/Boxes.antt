@@ -9,6 +9,7 @@ use Rattle.number.specs.Signs.{absOf, minOf, maxOf}
 use Rattle.boundary.specs.declared.Point.{Point}
 use Rattle.boundary.specs.declared.Edge.{Edge}
 use Rattle.boundary.specs.declared.Bounds.{Bounds}
+use Rattle.boundary.specs.Line.{squaresOf}
 
 -- ---- the *field* (document 01): every finite number of magnitude at most 1,048,576
 abbrev pub limit : Float
@@ -168,3 +169,8 @@ gapAlong lo hi p = maxOf (maxOf (sub binary64 lo p) (sub binary64 p hi)) zeroᶠ
 unfoldable pub gapOf : Bounds → Point → Float
 unfolding gapAlong
 gapOf b p = hypotOf (gapAlong (b .min .x) (b .max .x) (p .x)) (gapAlong (b .min .y) (b .max .y) (p .y))
+
+-- its square before the root: the sum of the two squares
+unfoldable pub gapSquaresOf : Bounds → Point → Float
+unfolding gapAlong
+gapSquaresOf b p = squaresOf (record { x = gapAlong (b .min .x) (b .max .x) (p .x); y = gapAlong (b .min .y) (b .max .y) (p .y) })

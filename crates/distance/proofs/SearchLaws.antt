@@ -25,12 +25,13 @@ use Rattle.boundary.specs.declared.Near.{Near}
 use Rattle.distance.specs.declared.FoundEdge.{FoundEdge}
 use Rattle.lists.specs.Lists.{run, fold, any}
 use Rattle.boundary.specs.Outline.{count, after, vertexAt, edgeAt, edges}
-use Rattle.boundary.specs.Line.{lessPoint, squaresOf, footOf, normalOf, lineNear}
+use Rattle.boundary.specs.Line.{lessPoint, squaresOf, paramOf, footOf, normalOf, lineNear}
 use Rattle.distance.specs.Nearest.{nearer, farAway, nearestOf}
-use Rattle.boundary.specs.Boxes.{inField, pointInField, edgeInField, PointOf, FieldValue, FieldPoint, FieldEdge}
+use Rattle.boundary.specs.Boxes.{inField, pointInField, edgeInField, PointOf, FieldValue, FieldPoint, FieldEdge, Inside, hull, edgeBox}
 use Rattle.distance.specs.Search.{margin, outside, gapSquares, lengthTo, foundOf, edgeWins}
-use Rattle.boundary.proofs.AlongLaws.{param-share}
-use Rattle.boundary.proofs.BoxLaws.{along-out, foot-short}
+use Rattle.boundary.proofs.AlongLaws.{along-fits, between-held}
+use Rattle.boundary.proofs.BoxLaws.{edge-box-field, edge-box-ends, foot-widened, out-size, foot-short}
+use Rattle.boundary.proofs.FieldLaws.{field-held, field-box-finite, widened-finite}
 use Rattle.lists.proofs.FoldLaws.{fold-run-next, fold-run-end, any-at}
 
 -- ---- an edge that is left out
@@ -66,14 +67,18 @@ module _ (i : ℕ) (c : Float) (j : ℕ) (d : Float) where
       same true = refl
       same false = refl
 
-module _ {e : Edge} {p : Point} (E : FieldEdge e) (P : FieldPoint p) where
-  -- the squared gap is at most the squared distance
-  gap-squares : T (le (gapSquares e p) (squaresOf (lessPoint p (footOf e p))))
-  unfolding gapSquares outside footOf
-  gap-squares =
-      let t = param-share E P in
-      squares-mono _ _ _ _ (along-out (E .a .x) (E .b .x) (P .x) t margin-field (unfold le lt eq in tt)) (along-out (E .a .y) (E .b .y) (P .y) t margin-field (unfold le lt eq in tt))
+-- the squared gap of c's widened box is at most the squared distance of every edge e that lies in c's box
+pub gap-squares : {c e : Edge} {p : Point} → FieldEdge c → FieldEdge e → FieldPoint p → Inside (e .a) (edgeBox c) → Inside (e .b) (edgeBox c) → T (le (gapSquares c p) (squaresOf (lessPoint p (footOf e p))))
+unfolding gapSquares outside footOf edgeBox hull
+gap-squares {c} {e} {p} C E P ia ib =
+    let w = widened-finite (edge-box-field C) margin-field in
+    let i = foot-widened E P (field-box-finite (edge-box-field C)) (field-held margin-field) (unfold le lt eq in tt) ia ib in
+    let t = paramOf e p in
+    squares-mono _ _ _ _
+    (out-size (w .min .x) (w .max .x) (field-held (P .x)) (between-held (w .min .x) (w .max .x) (along-fits (e .a .x) (e .b .x) t (E .b .x .fits)) (i .x)) (i .x))
+    (out-size (w .min .y) (w .max .y) (field-held (P .y)) (between-held (w .min .y) (w .max .y) (along-fits (e .a .y) (e .b .y) t (E .b .y .fits)) (i .y)) (i .y))
 
+module _ {e : Edge} {p : Point} (E : FieldEdge e) (P : FieldPoint p) where
   pub foot-near : PointOf Short (lessPoint p (footOf e p))
   foot-near = let s = foot-short E P in record { x = s .0; y = s .1 }
 
@@ -83,7 +88,8 @@ module _ {e : Edge} {p : Point} (E : FieldEdge e) (P : FieldPoint p) where
   left-out q Q h =
       let s = clearLimit (squaresOf (lessPoint p q)) in
       let t = squaresOf (lessPoint p (footOf e p)) in
-      clear-farther p q (footOf e p) Q foot-near (is-true (lt s t) (below-through s (gapSquares e p) t (subst T (sym h) tt) gap-squares))
+      let ends = edge-box-ends E in
+      clear-farther p q (footOf e p) Q foot-near (is-true (lt s t) (below-through s (gapSquares e p) t (subst T (sym h) tt) (gap-squares E E P (ends .0) (ends .1))))
 
   -- a distance is below infinity
   pub near-finite : lt (lineNear e p .d) (inf false) ≡ true

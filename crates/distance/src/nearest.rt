@@ -46,7 +46,7 @@ fn outside_of(a: f64, b: f64, p: f64) -> f64
 }
 
 // The squared distance of p from the edge's widened box.
-fn gap_squares(e: Edge, p: Point) -> f64
+pub fn gap_squares(e: Edge, p: Point) -> f64
     ensures { λ r. ⌜ r ≡ gapSquares e p ⌝ }
 {
     let x = outside_of(e.a.x, e.b.x, p.x);
@@ -55,7 +55,7 @@ fn gap_squares(e: Edge, p: Point) -> f64
 }
 
 // The squared distance of a from p.
-fn squares_to(a: Point, p: Point) -> f64
+pub fn squares_to(a: Point, p: Point) -> f64
     ensures { λ r. ⌜ r ≡ squaresOf (lessPoint p a) ⌝ }
 {
     let x = p.x - a.x;

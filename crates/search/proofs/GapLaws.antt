@@ -1,4 +1,4 @@
--- The gap of every node of a tree that covers a set's outlines is at most the magnitude of each outline below it, and our own index is such a tree. Assumes nothing.
+-- The gap of every node of a tree that covers a set's outlines is at most the magnitude of each outline below it, what is clear of the squared gap is farther than it, and our own index is such a tree. Assumes nothing.
 use mathlib.Core.Path.{_≡_, refl, ap}
 use mathlib.Core.Bool.{Bool, true, false}
 use mathlib.Core.List.{List, _++_}
@@ -7,11 +7,11 @@ use native.Mathlib.Omega.{arith}
 use borrow.Author.Tests.{ltb-true, ltb-false}
 use lib.Dec.{T, ltb}
 use lib.ListN.{length}
-use lib.Ieee.{Float, inf, le, isNan}
+use lib.Ieee.{Float, inf, lt, le, isNan}
 use Rattle.number.proofs.OrderLaws.{below-le, left-not-nan}
 use Rattle.boundary.specs.declared.Point.{Point}
 use Rattle.boundary.specs.declared.Bounds.{Bounds}
-use Rattle.boundary.specs.Boxes.{FieldPoint, FiniteBox, Around, widenedOf, gapOf}
+use Rattle.boundary.specs.Boxes.{FieldPoint, FiniteBox, Around, widenedOf, gapOf, gapSquaresOf}
 use Rattle.lists.specs.Lists.{run, In}
 use Rattle.boundary.proofs.AroundLaws.{NotNan}
 use Rattle.boundary.proofs.BoxLaws.{widened-box-finite}
@@ -28,9 +28,10 @@ use Rattle.index.proofs.IndexCovers.{items-times, items-once, node-boxes, nodes
 use Rattle.set.specs.Set.{Outline, outlineIn, setBox, setBoxes, Fitting, DoubleSet}
 use Rattle.set.proofs.SetLaws.{outline-past, outline-numbers, boxes-length, box-at-set, boxes-tested, box-field}
 use Rattle.search.specs.Least.{magnitudeAt}
-use Rattle.search.specs.Walk.{Covered, Searched}
+use Rattle.search.specs.declared.Kept.{Kept}
+use Rattle.search.specs.Walk.{Clear, Covered, Searched}
 use Rattle.boundary.specs.Boxes.{DoubleBox}
-use Rattle.search.proofs.MagnitudeLaws.{Length, magnitude-length, magnitude-none, gap-magnitude}
+use Rattle.search.proofs.MagnitudeLaws.{Length, magnitude-length, magnitude-none, gap-magnitude, node-beyond}
 
 -- what holds of every node, of two facts that do
 each-both : (P Q R : Bounds → List ℕ → Type 0) → ((b : Bounds) (is : List ℕ) → P b is → Q b is → R b is) → (t : Tree) → EachNode P t → EachNode Q t → EachNode R t
@@ -65,10 +66,12 @@ module _ (W : ℕ → Bounds) where
           let b = length-right C is in
           (doubles (hull-of-finite W is s F), p (omega arith) (λ i k. F i (let z = times-halves C is i in omega arith)), q (omega arith) (λ i k. F i (let z = times-halves C is i in omega arith)))
 
--- of magnitudes D by number, of which there are n: each of the items is one of those, and the gap of the box is at most its magnitude
+-- of magnitudes D by number, of which there are n: each of the items is one of those, the gap of the box is at most its magnitude, and where the squared gap is
+-- above `far` it is farther than the best
 pub record Gapped (D : ℕ → Float) (n : ℕ) (p : Point) (b : Bounds) (i : ℕ) : Type 0 where
   pub within : i < n
   pub gap : T (le (gapOf b p) (D i))
+  pub beyond : (kept : Kept) → Clear p kept → lt (kept .far) (gapSquaresOf b p) ≡ true → lt (kept .best .distance) (D i) ≡ true
 
 abbrev pub Nearby : (ℕ → Float) → ℕ → Point → Bounds → List ℕ → Type 0
 Nearby D n p b is = (i : ℕ) → In i is → Gapped D n p b i
@@ -100,7 +103,13 @@ module _ (os : List Outline) (fit : Fitting os) (held : DoubleSet os) where
         one : (b : Bounds) → DoubleBox b → (i : ℕ) → Covered os b i → Gapped (magnitudeAt os p) (length os) p b i
         one b F i C =
             let l = C .within in
-            record { within = l; gap = gap-magnitude (outlineIn os i) (outline-numbers os fit held i l) p P (fit .some i l) b (box-field os fit held i l) F (C .around) }
+            let N = outline-numbers os fit held i l in
+            let B = box-field os fit held i l in
+            record {
+              within = l;
+              gap = gap-magnitude (outlineIn os i) N p P (fit .some i l) b B F (C .around);
+              beyond = λ kept c. node-beyond (outlineIn os i) N p P (fit .some i l) c b B F (C .around);
+            }
 
   -- ---- our index
   abbrev boxes : List Float

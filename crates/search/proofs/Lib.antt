@@ -2,11 +2,11 @@
 
 -- The least of some magnitudes, the lowest number among equals: the search keeps the better of two, and there is only one best.
 pub mod LeastLaws
--- An outline's magnitude: what it is, and that the gap of every box around the outline's is at most that.
+-- An outline's magnitude: what it is, that the gap of every box around the outline's is at most that, and that what is clearly farther by its box is farther.
 pub mod MagnitudeLaws
--- The gap of every node of a tree that covers a set's outlines is at most the magnitude of each outline below it; our index is such a tree.
+-- The gap of every node of a tree that covers a set's outlines is at most the magnitude of each outline below it, squared or not; our index is such a tree.
 pub mod GapLaws
--- The magnitude of outline k, and the best of a leaf's outlines, one after the other.
+-- What is kept, outline k, left out or looked at, and the best of a leaf's outlines, one after the other.
 pub mod LookLaws
 -- A node that waits: the tree that stands there, and those of its children.
 pub mod WaitLaws

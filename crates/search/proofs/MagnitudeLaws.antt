@@ -1,5 +1,5 @@
--- The magnitude of an outline's distance is the distance of one of its edges, a number below infinity, and the gap of every box around the outline's widened box is at most that. Assumes nothing.
-use mathlib.Core.Path.{_≡_, refl, sym, _∙_}
+-- The magnitude of an outline's distance is the distance of one of its edges, a number below infinity, and the gap of every box around the outline's widened box is at most that; what is clearly farther by its box is farther. Assumes nothing.
+use mathlib.Core.Path.{_≡_, refl, sym, _∙_, subst}
 use mathlib.Core.Bool.{Bool, true, false, cond, true≢false}
 use mathlib.Core.List.{[]}
 use Prim.Native.Nat.{ℕ, zero, suc, _+_, _*_, _^_, _≤_, _<_}
@@ -15,6 +15,7 @@ use lib.Ieee.Bits.{is-true}
 use lib.Ieee.Fits.{up-pos}
 use lib.Pow.{pow-pos}
 use Rattle.number.specs.Exact.{zeroᶠ}
+use Rattle.number.proofs.OrderLaws.{below-through}
 use Rattle.number.proofs.MagnitudeOrder.{abs-neg, abs-plus}
 use Rattle.number.specs.Root.{Plus, plus-inf, plus-fin}
 use Rattle.number.specs.Signs.{absOf}
@@ -25,20 +26,23 @@ use Rattle.boundary.specs.declared.Edge.{Edge}
 use Rattle.boundary.specs.declared.Near.{Near}
 use Rattle.boundary.specs.declared.Distance.{Distance}
 use Rattle.boundary.specs.declared.Bounds.{Bounds}
-use Rattle.boundary.specs.Boxes.{PointOf, FieldValue, FieldPoint, FieldEdge, FieldBox, Inside, Around, emptyBox, pointBox, stretched, widenedOf, gapOf}
+use Rattle.boundary.specs.Boxes.{PointOf, FieldValue, FieldPoint, FieldEdge, FieldBox, Inside, Around, emptyBox, pointBox, stretched, edgeBox, widenedOf, gapOf, gapSquaresOf}
 use Rattle.lists.specs.Lists.{run, fold}
-use Rattle.boundary.specs.Line.{footOf, lineNear}
+use Rattle.boundary.specs.Line.{lessPoint, squaresOf, footOf, lineNear}
+use Rattle.distance.specs.Search.{gapSquares}
 use Rattle.distance.specs.Nearest.{nearer, farAway, nearestOf, roundingOf, flipped, awayAlong, signedOf}
 use Rattle.boundary.specs.Outline.{count, after, vertexAt, edgeAt, vertices, edges}
-use Rattle.boundary.proofs.BoxLaws.{around-inside}
+use Rattle.boundary.proofs.BoxLaws.{edge-box-ends, around-inside}
 use Rattle.boundary.proofs.FieldLaws.{field-not-nan}
-use Rattle.distance.proofs.SearchLaws.{foot-near, near-finite, nearerStep}
+use Rattle.distance.proofs.SearchLaws.{gap-squares, foot-near, near-finite, nearerStep}
 use Rattle.geometry.specs.Polygon.{boundsOf, containsOf}
 use Rattle.boundary.proofs.AroundLaws.{NotNan, NumberBox, around-self, around-through, hull-number, hull-around, empty-number}
 use Rattle.set.specs.Set.{Outline, outlineBox}
+use Rattle.search.specs.declared.Kept.{Kept}
 use Rattle.search.specs.Least.{magnitudeOf}
+use Rattle.search.specs.Walk.{Clear, diagonalOf}
 use Rattle.boundary.specs.Boxes.{DoubleBox}
-use Rattle.boundary.proofs.GapLaws.{gap-around}
+use Rattle.boundary.proofs.GapLaws.{gap-around, squares-around}
 
 -- ---- the magnitude of a signed distance is the distance
 -- `f64` has one +0
@@ -104,22 +108,26 @@ stretched-has b q B Q =
       inside = record { x = record { low = both .1 .left; high = both .1 .right }; y = record { low = both .1 .bottom; high = both .1 .top } };
     }
 
-record Boxed (b : Bounds) (g : ℕ → Point) (i n : ℕ) (r : Bounds) : Type 0 where
+record Grown (b : Bounds) (g : ℕ → Point) (i n : ℕ) (r : Bounds) : Type 0 where
   around : Around r b
   inside : (j : ℕ) → i ≤ j → j < n → Inside (g j) r
 
-boxed : (g : ℕ → Point) (i m : ℕ) (b : Bounds) → NumberBox b → ((j : ℕ) → j < i + m → PointOf NotNan (g j)) → Boxed b g i (i + m) (fold stretched b (run g i m))
+grown : (g : ℕ → Point) (i m : ℕ) (b : Bounds) → NumberBox b → ((j : ℕ) → j < i + m → PointOf NotNan (g j)) → Grown b g i (i + m) (fold stretched b (run g i m))
 unfolding fold run
-boxed g i zero b B N = record { around = around-self b B; inside = λ j l h. absurd (omega arith) }
-boxed g i (suc m) b B N =
+grown g i zero b B N = record { around = around-self b B; inside = λ j l h. absurd (omega arith) }
+grown g i (suc m) b B N =
     let s = stretched-has b (g i) B (N i (omega arith)) in
-    let r = boxed g (suc i) m (stretched b (g i)) (s .number) (λ j h. N j (omega arith)) in
+    let r = grown g (suc i) m (stretched b (g i)) (s .number) (λ j h. N j (omega arith)) in
     let f = fold stretched (stretched b (g i)) (run g (suc i) m) in
     record { around = around-through f (stretched b (g i)) b (r .around) (s .around); inside = λ j l h. at f j l h s r (ℕ-discrete j i) }
   where
-    at : (f : Bounds) (j : ℕ) → i ≤ j → j < i + suc m → Stretched b (g i) (stretched b (g i)) → Boxed (stretched b (g i)) g (suc i) (suc i + m) f → Dec (j ≡ i) → Inside (g j) f
+    at : (f : Bounds) (j : ℕ) → i ≤ j → j < i + suc m → Stretched b (g i) (stretched b (g i)) → Grown (stretched b (g i)) g (suc i) (suc i + m) f → Dec (j ≡ i) → Inside (g j) f
     at f j l h s r (yes e) = rw e (around-inside (r .around) (s .inside))
     at f j l h s r (no a) = r .inside j (omega arith) (omega arith)
+
+-- ---- the box of a box's diagonal is around it
+diagonal-around : {b : Bounds} → FieldBox b → Around (edgeBox (diagonalOf b)) b
+diagonal-around B = let i = edge-box-ends (record { a = B .min; b = B .max }) in record { left = i .0 .x .low; right = i .1 .x .high; bottom = i .0 .y .low; top = i .1 .y .high }
 
 -- ---- an outline whose numbers are all of the field
 module _ (o : Outline) (N : (i : ℕ) → i < length o → FieldValue (getD o i nan)) where
@@ -133,13 +141,13 @@ module _ (o : Outline) (N : (i : ℕ) → i < length o → FieldValue (getD o i 
       go true e = omega arith
       go false e = let d = eqb-false (i + 1) (count o) e in omega arith
 
-  edge-field : (i : ℕ) → i < count o → FieldEdge (edgeAt o i)
+  pub edge-field : (i : ℕ) → i < count o → FieldEdge (edgeAt o i)
   edge-field i l = record { a = vertex-field i l; b = vertex-field (after (count o) i) (after-within i l) }
 
   -- its box has every vertex
   vertex-inside : (i : ℕ) → i < count o → Inside (vertexAt o i) (outlineBox o)
   unfolding boundsOf vertices
-  vertex-inside i l = boxed (vertexAt o) 0 (count o) emptyBox empty-number number .inside i (omega arith) (omega arith)
+  vertex-inside i l = grown (vertexAt o) 0 (count o) emptyBox empty-number number .inside i (omega arith) (omega arith)
     where
       number : (j : ℕ) → j < 0 + count o → PointOf NotNan (vertexAt o j)
       number j h = let v = vertex-field j (omega arith) in record { x = field-not-nan (v .x); y = field-not-nan (v .y) }
@@ -174,6 +182,30 @@ module _ (o : Outline) (N : (i : ℕ) → i < length o → FieldValue (getD o i 
 
     pub magnitude-length : Length (magnitudeOf o p)
     magnitude-length = rw magnitude-is near-length
+
+    -- what is clear of a number that is at most every edge's squared distance is farther
+    module _ {kept : Kept} (C : Clear p kept) where
+      beyond : (g : Float) → ((i : ℕ) → i < count o → T (le g (squaresOf (lessPoint p (footOf (edgeAt o i) p))))) → lt (kept .far) g ≡ true → lt (kept .best .distance) (magnitudeOf o p) ≡ true
+      unfolding lineNear
+      beyond g G h =
+          rw magnitude-is
+          (nearest-one-of (λ c. lt (kept .best .distance) (c .d) ≡ true)
+          (λ i l.
+          let q = footOf (edgeAt o i) p in
+          let s = squaresOf (lessPoint p q) in
+          C .farther q (foot-near (edge-field i l) P) (is-true (lt (kept .far) s) (below-through (kept .far) g s (subst T (sym h) tt) (G i l)))))
+
+      -- so of the squared gap of a box of `f64`s around the outline's widened box
+      pub node-beyond : (n : Bounds) → FieldBox (outlineBox o) → DoubleBox n → Around n (widenedOf (outlineBox o)) → lt (kept .far) (gapSquaresOf n p) ≡ true → lt (kept .best .distance) (magnitudeOf o p) ≡ true
+      node-beyond n B F A = beyond (gapSquaresOf n p) (λ i l. squares-around (edge-field i l) P B (vertex-inside i l) (vertex-inside (after (count o) i) (after-within i l)) F A)
+
+      -- and of that of the outline's own box, widened as an edge's is
+      pub own-beyond : FieldBox (outlineBox o) → lt (kept .far) (gapSquares (diagonalOf (outlineBox o)) p) ≡ true → lt (kept .best .distance) (magnitudeOf o p) ≡ true
+      own-beyond B =
+          let c = diagonalOf (outlineBox o) in
+          let A = diagonal-around B in
+          beyond (gapSquares c p)
+          (λ i l. gap-squares (record { a = B .min; b = B .max }) (edge-field i l) P (around-inside A (vertex-inside i l)) (around-inside A (vertex-inside (after (count o) i) (after-within i l))))
 
     -- THE GAP of every box of `f64`s around the outline's widened box is at most it
     pub gap-magnitude : (n : Bounds) → FieldBox (outlineBox o) → DoubleBox n → Around n (widenedOf (outlineBox o)) → T (le (gapOf n p) (magnitudeOf o p))

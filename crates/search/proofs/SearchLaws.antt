@@ -1,4 +1,4 @@
--- The search: every outline is below a node that waits, or the best is at most it. So where nothing waits, or the least gap is above the best, the best is the least of all. Assumes nothing.
+-- The search: every outline is below a node that waits, or the best is at most it. So where nothing waits, or the least gap is above `far`, the best is the least of all. Assumes nothing.
 use mathlib.Core.Path.{_≡_, sym, ap, _∙_, subst}
 use mathlib.Core.Bool.{true, false}
 use mathlib.Core.List.{List}
@@ -8,7 +8,7 @@ use native.Mathlib.Omega.{arith}
 use lib.Dec.{T}
 use lib.Ieee.{Float, inf, lt, le}
 use lib.Ieee.Bits.{is-true}
-use Rattle.number.proofs.OrderLaws.{le-through, below-through, below-le, below-not-le}
+use Rattle.number.proofs.OrderLaws.{le-self, right-not-nan, below-through, below-le, below-not-le}
 use Rattle.boundary.specs.declared.Point.{Point}
 use Rattle.lists.proofs.MemberLaws.{times-append}
 use Rattle.lists.specs.Lists.{times, In}
@@ -20,7 +20,8 @@ use Rattle.nodes.specs.Layout.{extra, firstAt, countAt}
 use Rattle.index.specs.Buffer.{IndexBuffer, nodeBox, leafItems}
 use Rattle.boundary.proofs.AroundLaws.{NotNan}
 use Rattle.search.specs.declared.Best.{Best}
-use Rattle.search.specs.Walk.{bestOf, entryFor, Opened}
+use Rattle.search.specs.declared.Kept.{Kept}
+use Rattle.search.specs.Walk.{Clear, bestOf, entryFor, Opened}
 use Rattle.search.proofs.LeastLaws.{Upto, Among, BestIs, best-is, LeastOutline}
 use Rattle.search.proofs.GapLaws.{Gapped, Nearby}
 use Rattle.search.proofs.WaitLaws.{treeAt, Waits, waits-items, waits-root, Children, waits-children}
@@ -49,13 +50,14 @@ module _ (B : IndexBuffer) (d : ℕ) (p : Point) (D : ℕ → Float) (n : ℕ) w
   unfoldable pub holdsOf : ℕ → Entry → ℕ
   holdsOf i x = times i (itemsOf (treeAt B d (x .node)))
 
-  pub record Searching (f : ℕ → Entry) (m : ℕ) (best : Best) : Type 0 where
+  pub record Searching (f : ℕ → Entry) (m : ℕ) (kept : Kept) : Type 0 where
     pub heaped : Heaped f m
     pub few : totalWeight sizeOf f m ≤ 511
     pub ready : (k : ℕ) → k < m → ReadyNode (f k)
-    pub among : Among D n best
+    pub among : Among D n (kept .best)
+    pub clear : Clear p kept
     -- what is below no node that waits was looked at
-    pub cover : (i : ℕ) → i < n → totalWeight (holdsOf i) f m ≡ 0 → Upto D best i
+    pub cover : (i : ℕ) → i < n → totalWeight (holdsOf i) f m ≡ 0 → Upto D (kept .best) i
 
   -- as many entries as nodes at most
   entries-few : (f : ℕ → Entry) (m : ℕ) → m ≤ totalWeight sizeOf f m
@@ -63,22 +65,23 @@ module _ (B : IndexBuffer) (d : ℕ) (p : Point) (D : ℕ → Float) (n : ℕ) w
   entries-few f zero = omega arith
   entries-few f (suc m) = let h = entries-few f m in omega arith
 
-  pub searching-few : {f : ℕ → Entry} {m : ℕ} {best : Best} → Searching f m best → m ≤ 511
+  pub searching-few : {f : ℕ → Entry} {m : ℕ} {kept : Kept} → Searching f m kept → m ≤ 511
   searching-few {f} {m} S = let h = entries-few f m in let g = S .few in omega arith
 
   -- ---- the root alone
-  pub searching-first : {f g : ℕ → Entry} {best : Best} → Pushed f 0 (nodeEntry 0) g → ReadyNode (nodeEntry 0) → sizeOf (nodeEntry 0) ≤ 511 → ((i : ℕ) → i < n → 0 < holdsOf i (nodeEntry 0)) → Among D n best → Searching g 1 best
+  pub searching-first : {f g : ℕ → Entry} {kept : Kept} → Pushed f 0 (nodeEntry 0) g → ReadyNode (nodeEntry 0) → sizeOf (nodeEntry 0) ≤ 511 → ((i : ℕ) → i < n → 0 < holdsOf i (nodeEntry 0)) → Among D n (kept .best) → Clear p kept → Searching g 1 kept
   unfolding totalWeight
-  searching-first {f} {g} H R s h b = record {
+  searching-first {f} {g} H R s h b c = record {
     heaped = H .heaped;
     few = let e = H .contents sizeOf in omega arith;
     ready = all-kept ReadyNode H (λ k K. absurd (omega arith)) R;
     among = b;
+    clear = c;
     cover = λ i l z. let e = H .contents (holdsOf i) in let k = h i l in absurd (omega arith);
   }
 
   -- ---- one is taken
-  module _ {f g : ℕ → Entry} {m : ℕ} {x : Entry} {best : Best} (S : Searching f m best) (H : Popped f m x g) where
+  module _ {f g : ℕ → Entry} {m : ℕ} {x : Entry} {kept : Kept} (S : Searching f m kept) (H : Popped f m x g) where
     popped-ready : ((k : ℕ) → k < m - 1 → ReadyNode (g k)) × ReadyNode x
     popped-ready = all-left ReadyNode H (S .ready)
 
@@ -103,19 +106,20 @@ module _ (B : IndexBuffer) (d : ℕ) (p : Point) (D : ℕ → Float) (n : ℕ) w
       unfolding holdsOf
       looked-within i h = item-gap i (rw items-are h) .within
 
-      pub searching-leaf : {r : Best} → r ≡ bestOf D best looked → Searching g (m - 1) r
+      pub searching-leaf : {r : Kept} → r .best ≡ bestOf D (kept .best) looked → Clear p r → Searching g (m - 1) r
       unfolding holdsOf
-      searching-leaf {r} e =
-          let b : BestIs D n best looked r = rw e (best-is D n N looked (λ i h. let l = looked-within i h in omega arith) best (S .among)) in
+      searching-leaf {r} e C =
+          let b : BestIs D n (kept .best) looked (r .best) = rw e (best-is D n N looked (λ i h. let l = looked-within i h in omega arith) (kept .best) (S .among)) in
           record {
             heaped = H .heaped;
             few = let a = S .few in let c = popped-less in omega arith;
             ready = popped-ready .0;
             among = b .among;
+            clear = C;
             cover = λ i l z. go i l z b (ℕ-discrete (times i looked) 0);
           }
         where
-          go : (i : ℕ) → i < n → totalWeight (holdsOf i) g (m - 1) ≡ 0 → BestIs D n best looked r → Dec (times i looked ≡ 0) → Upto D r i
+          go : (i : ℕ) → i < n → totalWeight (holdsOf i) g (m - 1) ≡ 0 → BestIs D n (kept .best) looked (r .best) → Dec (times i looked ≡ 0) → Upto D (r .best) i
           go i l z b (yes y) = let c = H .contents (holdsOf i) in let a = ap (times i) items-are in b .old i (S .cover i l (omega arith))
           go i l z b (no a) = b .new i (omega arith)
 
@@ -138,13 +142,14 @@ module _ (B : IndexBuffer) (d : ℕ) (p : Point) (D : ℕ → Float) (n : ℕ) w
         unfolding sizeOf
         opened-less = let a = rw three at (all sizeOf) in let b = H .contents sizeOf in let c = parts .size in omega arith
 
-        pub searching-inner : Searching k (m - 1 + 2) best
+        pub searching-inner : Searching k (m - 1 + 2) kept
         unfolding holdsOf
         searching-inner = record {
           heaped = rw three at (O .second .heaped);
           few = let a = S .few in let c = opened-less in omega arith;
           ready = λ j J. all-kept ReadyNode (O .second) (all-kept ReadyNode (O .first) (popped-ready .0) (parts .first)) (parts .second) j (omega arith);
           among = S .among;
+          clear = S .clear;
           cover = λ i l z.
               let a = rw three at (all (holdsOf i)) in
               let b = H .contents (holdsOf i) in
@@ -153,30 +158,28 @@ module _ (B : IndexBuffer) (d : ℕ) (p : Point) (D : ℕ → Float) (n : ℕ) w
               S .cover i l (omega arith);
         }
 
-    -- what is below a node that waits is farther where the least gap is above the best
-    module _ (above : lt (best .distance) (x .gap) ≡ true) where
-      farther : (i : ℕ) → T (le (x .gap) (D i)) → Upto D best i
-      farther i h =
-          let l = below-through (best .distance) (x .gap) (D i) (subst T (sym above) tt) h in
-          record { least = below-le (best .distance) (D i) (is-true (lt (best .distance) (D i)) l); first = λ u. absurd (below-not-le (best .distance) (D i) l u) }
-
-      pub upto-above : (i : ℕ) → i < n → Upto D best i
+    -- what is below a node that waits is farther where the least gap is above `far`
+    module _ (above : lt (kept .far) (x .gap) ≡ true) where
+      farther : (y : Entry) → ReadyNode y → T (le (x .gap) (y .gap)) → (i : ℕ) → 0 < holdsOf i y → Upto D (kept .best) i
       unfolding holdsOf
+      farther y w h i l =
+          let far : lt (kept .far) (y .gap) ≡ true = is-true (lt (kept .far) (y .gap)) (below-through (kept .far) (x .gap) (y .gap) (subst T (sym above) tt) h) in
+          let q = waits-root B d p (Nearby D n p) y w i l .beyond kept (S .clear) (rw (w .gap) at far) in
+          record { least = below-le (kept .best .distance) (D i) q; first = λ u. absurd (below-not-le (kept .best .distance) (D i) (subst T (sym q) tt) u) }
+
+      pub upto-above : (i : ℕ) → i < n → Upto D (kept .best) i
       upto-above i l = go (ℕ-discrete (holdsOf i x) 0) (ℕ-discrete (totalWeight (holdsOf i) g (m - 1)) 0)
         where
-          waiting : (k : ℕ) → k < m - 1 → 0 < holdsOf i (g k) → Upto D best i
-          waiting k K h =
-              let w = popped-ready .0 k K in
-              let q : T (le (g k .gap) (D i)) = rw (w .gap) (waits-root B d p (Nearby D n p) (g k) w i h .gap) in
-              farther i (le-through (x .gap) (g k .gap) (D i) (popped-gap H k K) q)
+          self : T (le (x .gap) (x .gap))
+          self = le-self (x .gap) (right-not-nan (kept .far) (x .gap) (below-le (kept .far) (x .gap) above))
 
-          go : Dec (holdsOf i x ≡ 0) → Dec (totalWeight (holdsOf i) g (m - 1) ≡ 0) → Upto D best i
-          go (no a) t = farther i (rw (popped-ready .1 .gap) (item-gap i (omega arith) .gap))
-          go (yes e) (no a) = total-some (holdsOf i) g (m - 1) (Upto D best i) waiting (omega arith)
+          go : Dec (holdsOf i x ≡ 0) → Dec (totalWeight (holdsOf i) g (m - 1) ≡ 0) → Upto D (kept .best) i
+          go (no a) t = farther x (popped-ready .1) self i (omega arith)
+          go (yes e) (no a) = total-some (holdsOf i) g (m - 1) (Upto D (kept .best) i) (λ k K. farther (g k) (popped-ready .0 k K) (popped-gap H k K) i) (omega arith)
           go (yes e) (yes z) = let c = H .contents (holdsOf i) in S .cover i l (omega arith)
 
   -- nothing waits
-  pub upto-none : {f : ℕ → Entry} {m : ℕ} {best : Best} → Searching f m best → m ≤ 0 → (i : ℕ) → i < n → Upto D best i
+  pub upto-none : {f : ℕ → Entry} {m : ℕ} {kept : Kept} → Searching f m kept → m ≤ 0 → (i : ℕ) → i < n → Upto D (kept .best) i
   unfolding totalWeight
   upto-none {f} {m} S z i l = let e : m ≡ 0 = omega arith in S .cover i l (ap (totalWeight (holdsOf i) f) e)
 

@@ -1,19 +1,20 @@
 -- The search of an index of a set begins with the root, and ends with the *nearest answer*. Assumes nothing.
 use mathlib.Core.Path.{_≡_, sym}
-use mathlib.Core.Bool.{false}
 use mathlib.Core.List.{List}
 use Prim.Native.Nat.{ℕ, _≤_, _<_}
 use native.Mathlib.Omega.{arith}
+use lib.Dec.{T}
 use lib.ListN.{length}
-use lib.Ieee.{Float, inf, binary64, sub, isNan}
+use lib.Ieee.{Float, binary64, sub, le, isNan}
 use Rattle.number.specs.Exact.{zeroᶠ}
-use Rattle.number.specs.Signs.{maxOf}
-use Rattle.number.proofs.OrderLaws.{right-not-nan}
-use Rattle.number.proofs.MagnitudeOrder.{le-max-right}
-use Rattle.number.proofs.HypotLaws.{hypot-not-nan}
+use Rattle.number.specs.Signs.{absOf, maxOf}
+use Rattle.number.proofs.OrderLaws.{le-self, left-not-nan, right-not-nan}
+use Rattle.number.proofs.MagnitudeOrder.{abs-nonneg, le-max-right}
+use Rattle.number.proofs.HypotLaws.{squares-mono, hypot-not-nan}
 use Rattle.boundary.specs.declared.Point.{Point}
 use Rattle.boundary.specs.declared.Bounds.{Bounds}
-use Rattle.boundary.specs.Boxes.{FieldPoint, gapAlong, gapOf}
+use Rattle.boundary.specs.Boxes.{FieldPoint, gapAlong, gapOf, gapSquaresOf}
+use Rattle.boundary.specs.Line.{squaresOf}
 use Rattle.search.specs.declared.Entry.{Entry}
 use Rattle.search.specs.Heap.{Pushed}
 use Rattle.boundary.proofs.AroundLaws.{NotNan}
@@ -21,9 +22,10 @@ use Rattle.index.specs.Buffer.{IndexBuffer}
 use Rattle.set.specs.Set.{Outline, Fitting, DoubleSet}
 use Rattle.search.specs.declared.Best.{Best}
 use Rattle.search.specs.Least.{magnitudeAt, leastIn}
-use Rattle.search.specs.Walk.{Searched, entryFor}
+use Rattle.search.specs.Walk.{noneKept, Searched, entryFor}
 use Rattle.search.proofs.LeastLaws.{Upto, Among, least-of, least-only}
 use Rattle.search.proofs.GapLaws.{Nearby, set-magnitude, past-magnitude, magnitude-number, tree-gaps}
+use Rattle.search.proofs.LookLaws.{none-clear}
 use Rattle.search.proofs.WaitLaws.{treeAt, read-stands, waits-of}
 use Rattle.search.proofs.SearchLaws.{ReadyNode, sizeOf, holdsOf, Searching, searching-first, search-least}
 
@@ -31,6 +33,18 @@ use Rattle.search.proofs.SearchLaws.{ReadyNode, sizeOf, holdsOf, Search
 along-number : (lo hi p : Float) → NotNan (gapAlong lo hi p)
 unfolding gapAlong
 along-number lo hi p = right-not-nan zeroᶠ (gapAlong lo hi p) (le-max-right (maxOf (sub binary64 lo p) (sub binary64 p hi)) zeroᶠ (unfold isNan in tt))
+
+-- squared too
+pub squares-number : (b : Bounds) (p : Point) → NotNan (gapSquaresOf b p)
+unfolding gapSquaresOf
+squares-number b p =
+    let x = gapAlong (b .min .x) (b .max .x) (p .x) in
+    let y = gapAlong (b .min .y) (b .max .y) (p .y) in
+    let s = squaresOf (record { x = x; y = y }) in
+    left-not-nan s s (squares-mono x y x y (size x (along-number (b .min .x) (b .max .x) (p .x))) (size y (along-number (b .min .y) (b .max .y) (p .y))))
+  where
+    size : (z : Float) → NotNan z → T (le (absOf z) (absOf z))
+    size z N = le-self (absOf z) (right-not-nan zeroᶠ (absOf z) (abs-nonneg z N))
 
 pub gap-number : (b : Bounds) (p : Point) → NotNan (gapOf b p)
 unfolding gapOf
@@ -64,8 +78,8 @@ module _ (os : List Outline) (fit : Fitting os) (held : DoubleSet os) (p : Point
     root-has i l = rw root-is (X .has i l)
 
     -- before the first turn there is no best: it counts as the outline past the last, infinitely far
-    pub set-search-first : (f g : ℕ → Entry) → Pushed f 0 (entryFor (B .corners) p 0) g → Searching B most p D (length os) g 1 (record { outline = length os; distance = inf false })
-    set-search-first f g H = searching-first B most p D (length os) H root-ready root-size root-has (record { within = omega arith; is = sym (past-magnitude os fit held p P) })
+    pub set-search-first : (f g : ℕ → Entry) → Pushed f 0 (entryFor (B .corners) p 0) g → Searching B most p D (length os) g 1 (noneKept (length os))
+    set-search-first f g H = searching-first B most p D (length os) H root-ready root-size root-has (record { within = omega arith; is = sym (past-magnitude os fit held p P) }) (none-clear p (length os))
 
     -- THE ANSWER
     pub set-search-end : 0 < length os → (best : Best) → Among D (length os) best → ((i : ℕ) → i < length os → Upto D best i) → best ≡ leastIn os p

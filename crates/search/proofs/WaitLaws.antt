@@ -8,7 +8,7 @@ use borrow.Author.Tests.{lt-ltb}
 use lib.Dec.{ltb}
 use Rattle.boundary.specs.declared.Point.{Point}
 use Rattle.boundary.specs.declared.Bounds.{Bounds}
-use Rattle.boundary.specs.Boxes.{gapOf}
+use Rattle.boundary.specs.Boxes.{gapSquaresOf}
 use Rattle.search.specs.declared.Entry.{Entry}
 use Rattle.tree.specs.Tree.{Tree, leaf, inner, itemsOf, EachNode}
 use Rattle.nodes.specs.Layout.{extra, firstAt, countAt}
@@ -47,7 +47,7 @@ module _ (B : IndexBuffer) where
   module _ (d : ℕ) (p : Point) (Q : Bounds → List ℕ → Type 0) where
     -- the entry is a node where a tree of at most d nodes stands, with its gap, and Q holds of every node there
     pub record Waits (x : Entry) : Type 0 where
-      pub gap : x .gap ≡ gapOf (nodeBox B (x .node)) p
+      pub gap : x .gap ≡ gapSquaresOf (nodeBox B (x .node)) p
       pub stands : Stands B (x .node) (treeAt d (x .node))
       pub few : extra (treeAt d (x .node)) < d
       pub each : EachNode Q (treeAt d (x .node))

@@ -3,7 +3,6 @@ use mathlib.Core.Path.{_≡_}
 use Prim.Native.Nat.{ℕ, _≤_}
 use native.Mathlib.Omega.{arith}
 use lib.ListN.{length}
-use lib.Ieee.{div, ofBits}
 use Rattle.boundary.proofs.KnownLaws.{owned-point}
 use Rattle.search.specs.Heap.{entryAt, totalWeight}
 use Rattle.search.proofs.HeapLaws.{heaped-none}
@@ -12,18 +11,18 @@ use Rattle.set.specs.Set.{outlinesOf}
 use Rattle.set.proofs.SetLaws.{outlines-length}
 use Rattle.search.specs.Least.{magnitudeAt}
 use Rattle.search.proofs.SearchLaws.{sizeOf, Searching, searching-few, popped-less, looked-within, searching-leaf, children-small, opened-less, searching-inner, upto-above, upto-none}
-use Rattle.search.proofs.SetSearch.{most, gap-number, magnitude-numbers, set-search-first, set-search-end}
+use Rattle.search.proofs.SetSearch.{most, squares-number, magnitude-numbers, set-search-first, set-search-end}
 use borrow.Author.Needs.{needs}
 use Rattle.search.proofs.search_in.Statement.{statement}
 use Rattle.search.proofs.search_in.Tie as tie
 
 abbrev Inv-loop : tie.InvT-loop
-Inv-loop v counts starts p corners links items nodes₀ gaps₀ best₀ n₀ nodes gaps best n =
-    Searching (buffer corners links items) most p (magnitudeAt (outlinesOf v counts) p) (length (outlinesOf v counts)) (entryAt nodes gaps) n best
+Inv-loop v counts starts boxes p corners links items nodes₀ gaps₀ kept₀ n₀ nodes gaps kept n =
+    Searching (buffer corners links items) most p (magnitudeAt (outlinesOf v counts) p) (length (outlinesOf v counts)) (entryAt nodes gaps) n kept
     × (length nodes ≡ 512) × (length gaps ≡ 512)
 
 abbrev μ-loop : tie.MeasureT-loop
-μ-loop v counts starts p corners links items nodes₀ gaps₀ best₀ n₀ nodes gaps best n =
+μ-loop v counts starts boxes p corners links items nodes₀ gaps₀ kept₀ n₀ nodes gaps kept n =
     totalWeight (sizeOf (buffer corners links items) most p (magnitudeAt (outlinesOf v counts) p) (length (outlinesOf v counts))) (entryAt nodes gaps) n
 
 none-of : {n : ℕ} → n ≤ 0 → n ≡ 0
@@ -33,38 +32,36 @@ gap-requires : tie.Need-gap-requires Inv-loop μ-loop
 gap-requires c κs = search needs
 
 push-requires : tie.Need-push-requires Inv-loop μ-loop
-push-requires c κs = ((search needs, search needs), (heaped-none _, rw (c .gap .ensures) (gap-number _ _)))
+push-requires c κs = ((search needs, search needs), (heaped-none _, rw (c .gap .ensures) (squares-number _ _)))
 
-cast-t23 : tie.Need-cast-t23 Inv-loop μ-loop
-cast-t23 c =
-    let c0 = c .before .before .before .before .before .before .before .before .before .before .before .before .before .before in
-    let s = c0 .before .before in
+cast-none-kept : tie.Need-cast-none-kept Inv-loop μ-loop
+cast-none-kept c =
+    let s = c .before .before .before .before .before .before .before .before .before .before .before .before .before .before .before .before .before in
     let a = s .args in
     let h = s .pre .0 .fitting .size in
     let l = outlines-length (a .v .now) (a .counts .now) in
     search needs
 
+none-kept-requires : tie.Need-none-kept-requires Inv-loop μ-loop
+none-kept-requires c κs = search needs
+
 loop-holds : tie.Need-loop-holds Inv-loop μ-loop
-unfolding div ofBits
 loop-holds c =
-    let u = c .before .before .before .before in
+    let u = c .before .before .before .before .before in
     let g = u .before in
-    let s = g .before .before .before .before .before .before .before .before .before .before .before in
+    let s = g .before .before .before .before .before .before .before .before .before .before .before .before in
     let a = s .args in
     let os = outlinesOf (a .v .now) (a .counts .now) in
     let B = buffer (a .corners .now) (a .links .now) (a .items .now) in
-    let D = magnitudeAt os (a .p) in
-    let n = length os in
     let A = s .pre .0 in
-    let P = owned-point (s .good .1 .1 .1 .0) (A .point) in
-    let h = set-search-first os (A .fitting) (A .held) (a .p) P B (s .pre .1) _ _ (rw (g .gap .ensures) at (u .push .ensures)) in
-    (rw (← outlines-length (a .v .now) (a .counts .now)) h, search needs, search needs)
+    let P = owned-point (s .good .1 .1 .1 .1 .0) (A .point) in
+    let h = set-search-first os (A .fitting) (A .held) (a .p) P B (s .pre .2) _ _ (rw (g .gap .ensures) at (u .push .ensures)) in
+    (rw (c .none-kept .ensures, ← outlines-length (a .v .now) (a .counts .now)) h, search needs, search needs)
 
 pop-requires : tie.Need-pop-requires Inv-loop μ-loop
 pop-requires c κs =
     let l = c .before .before .before in
-    let c0 = l .before .before .before .before .before .before .before .before .before .before .before .before .before .before in
-    let s = c0 .before .before .before in
+    let s = l .before .before .before .before .before .before .before .before .before .before .before .before .before .before .before .before .before .before .before in
     let a = s .args in
     let os = outlinesOf (a .v .now) (a .counts .now) in
     let B = buffer (a .corners .now) (a .links .now) (a .items .now) in
@@ -75,29 +72,38 @@ pop-requires c κs =
     (search needs, (search needs, search needs), S .heaped)
 
 same-length : tie.Need-same-length Inv-loop μ-loop
-same-length c = search needs
+same-length c =
+    let l = c .before .before .before .before .before .before .before .before .before .before .before .before in
+    let m = l .before .before .before .before .before .before .before .before .before .before .before .before .before .before .before .before .before .before .before .pre .4 in
+    let e = l .loop .inv .1 in
+    let k = c .before .before .before .before .before .before .before .nodes2 .given in
+    search needs
 
 same-length-2 : tie.Need-same-length-2 Inv-loop μ-loop
-same-length-2 c = search needs
+same-length-2 c =
+    let l = c .before .before .before .before .before .before .before .before .before .before .before .before in
+    let m = l .before .before .before .before .before .before .before .before .before .before .before .before .before .before .before .before .before .before .before .pre .5 in
+    let e = l .loop .inv .2 in
+    let k = c .before .before .before .before .before .gaps2 .given in
+    search needs
 
 returns : tie.Need-returns Inv-loop μ-loop
 returns c =
-    let x = c .before .before .before .before .before .before .before in
+    let x = c .before .before .before .before .before .before .before .before in
     let l = x .before .before .before .before in
-    let c0 = l .before .before .before .before .before .before .before .before .before .before .before .before .before .before in
-    let s = c0 .before .before .before in
+    let s = l .before .before .before .before .before .before .before .before .before .before .before .before .before .before .before .before .before .before .before in
     let a = s .args in
     let os = outlinesOf (a .v .now) (a .counts .now) in
     let B = buffer (a .corners .now) (a .links .now) (a .items .now) in
     let D = magnitudeAt os (a .p) in
     let n = length os in
     let A = s .pre .0 in
-    let P = owned-point (s .good .1 .1 .1 .0) (A .point) in
+    let P = owned-point (s .good .1 .1 .1 .1 .0) (A .point) in
     let S = l .loop .inv .0 in
     let k = outlines-length (a .v .now) (a .counts .now) in
-    let m = s .pre .2 in
-    set-search-end os (A .fitting) (A .held) (a .p) P B (s .pre .1) (omega arith) _ (S .among)
-    (upto-above B most (a .p) D n S (x .pop .ensures) (c .if1 .taken))
+    let m = s .pre .3 in
+    set-search-end os (A .fitting) (A .held) (a .p) P B (s .pre .2) (omega arith) _ (S .among)
+    (upto-above B most (a .p) D n S (x .pop .ensures) (c .before .if1 .taken))
 
 sub-n : tie.Need-sub-n Inv-loop μ-loop
 sub-n c = search needs
@@ -123,28 +129,28 @@ look-requires c κs =
     let z = y .before in
     let x = z .before .before .before .before .before .before .before .before .before in
     let l = x .before .before .before .before in
-    let c0 = l .before .before .before .before .before .before .before .before .before .before .before .before .before .before in
-    let s = c0 .before .before .before in
+    let s = l .before .before .before .before .before .before .before .before .before .before .before .before .before .before .before .before .before .before .before in
     let a = s .args in
     let os = outlinesOf (a .v .now) (a .counts .now) in
     let B = buffer (a .corners .now) (a .links .now) (a .items .now) in
     let D = magnitudeAt os (a .p) in
     let n = length os in
     let A = s .pre .0 in
-    let P = owned-point (s .good .1 .1 .1 .0) (A .point) in
+    let P = owned-point (s .good .1 .1 .1 .1 .0) (A .point) in
     let S = l .loop .inv .0 in
     let H = x .pop .ensures in (
       A,
+      s .pre .1,
       rw (z .at .ensures, y .at2 .ensures)
           (looked-within B most (a .p) D n S H (magnitude-numbers os (A .fitting) (A .held) (a .p) P) (rw (y .at2 .ensures) at (c .if2 .taken))),
+      S .clear,
     )
 
 loop-less : tie.Need-loop-less Inv-loop μ-loop
 loop-less c =
     let x = c .before .before .before .before .before .before .before .before .before .before .before .before in
     let l = x .before .before .before .before in
-    let c0 = l .before .before .before .before .before .before .before .before .before .before .before .before .before .before in
-    let s = c0 .before .before .before in
+    let s = l .before .before .before .before .before .before .before .before .before .before .before .before .before .before .before .before .before .before .before in
     let a = s .args in
     let os = outlinesOf (a .v .now) (a .counts .now) in
     let B = buffer (a .corners .now) (a .links .now) (a .items .now) in
@@ -159,20 +165,24 @@ loop-again c =
     let z = y .before in
     let x = z .before .before .before .before .before .before .before .before .before in
     let l = x .before .before .before .before in
-    let c0 = l .before .before .before .before .before .before .before .before .before .before .before .before .before .before in
-    let s = c0 .before .before .before in
+    let s = l .before .before .before .before .before .before .before .before .before .before .before .before .before .before .before .before .before .before .before in
     let a = s .args in
     let os = outlinesOf (a .v .now) (a .counts .now) in
     let B = buffer (a .corners .now) (a .links .now) (a .items .now) in
     let D = magnitudeAt os (a .p) in
     let n = length os in
     let A = s .pre .0 in
-    let P = owned-point (s .good .1 .1 .1 .0) (A .point) in
+    let P = owned-point (s .good .1 .1 .1 .1 .0) (A .point) in
     let S = l .loop .inv .0 in
     let H = x .pop .ensures in
     let f = rw (y .at2 .ensures) at (i .if2 .taken) in
-    let r = rw (z .at .ensures, y .at2 .ensures) at (c .look .ensures) in
-    (searching-leaf B most (a .p) D n S H (magnitude-numbers os (A .fitting) (A .held) (a .p) P) f r, search needs, search needs)
+    let e = c .look .ensures in
+    let ln = l .loop .inv .1 in
+    let lg = l .loop .inv .2 in
+    let pn = c .before .before .before .before .before .before .before .before .before .before .before .nodes2 .given in
+    let pg = c .before .before .before .before .before .before .before .before .before .gaps2 .given in
+    let r = rw (z .at .ensures, y .at2 .ensures) at (e .0) in
+    (searching-leaf B most (a .p) D n S H (magnitude-numbers os (A .fitting) (A .held) (a .p) P) f r (e .1), omega arith, omega arith)
 
 wait-both-requires : tie.Need-wait-both-requires Inv-loop μ-loop
 wait-both-requires c κs =
@@ -183,8 +193,7 @@ wait-both-requires c κs =
     let k = g .before .before in
     let x = k .before in
     let l = x .before .before .before .before in
-    let c0 = l .before .before .before .before .before .before .before .before .before .before .before .before .before .before in
-    let s = c0 .before .before .before in
+    let s = l .before .before .before .before .before .before .before .before .before .before .before .before .before .before .before .before .before .before .before in
     let a = s .args in
     let os = outlinesOf (a .v .now) (a .counts .now) in
     let B = buffer (a .corners .now) (a .links .now) (a .items .now) in
@@ -200,14 +209,13 @@ wait-both-requires c κs =
     let lg = l .loop .inv .2 in
     let pn = k .nodes2 .given in
     let pg = g .gaps2 .given in
-    ((omega arith, omega arith), omega arith, (H .heaped, (gap-number _ _, gap-number _ _)))
+    ((omega arith, omega arith), omega arith, (H .heaped, (squares-number _ _, squares-number _ _)))
 
 add-n : tie.Need-add-n Inv-loop μ-loop
 add-n c =
     let c0 = c .before .before .before .before .before .before .before .before .before .before .before .before .before .before in
     let l = c0 .before .before .before .before .before .before .before .before in
-    let c1 = l .before .before .before .before .before .before .before .before .before .before .before .before .before .before in
-    let s = c1 .before .before .before in
+    let s = l .before .before .before .before .before .before .before .before .before .before .before .before .before .before .before .before .before .before .before in
     let a = s .args in
     let os = outlinesOf (a .v .now) (a .counts .now) in
     let B = buffer (a .corners .now) (a .links .now) (a .items .now) in
@@ -224,8 +232,7 @@ loop-less-2 c =
     let z = y .before in
     let x = z .before .before .before .before .before .before .before .before .before in
     let l = x .before .before .before .before in
-    let c0 = l .before .before .before .before .before .before .before .before .before .before .before .before .before .before in
-    let s = c0 .before .before .before in
+    let s = l .before .before .before .before .before .before .before .before .before .before .before .before .before .before .before .before .before .before .before in
     let a = s .args in
     let os = outlinesOf (a .v .now) (a .counts .now) in
     let B = buffer (a .corners .now) (a .links .now) (a .items .now) in
@@ -246,8 +253,7 @@ loop-again-2 c =
     let k = g .before .before in
     let x = k .before in
     let l = x .before .before .before .before in
-    let c0 = l .before .before .before .before .before .before .before .before .before .before .before .before .before .before in
-    let s = c0 .before .before .before in
+    let s = l .before .before .before .before .before .before .before .before .before .before .before .before .before .before .before .before .before .before .before in
     let a = s .args in
     let os = outlinesOf (a .v .now) (a .counts .now) in
     let B = buffer (a .corners .now) (a .links .now) (a .items .now) in
@@ -271,21 +277,20 @@ same-length-4 c = search needs
 
 returns-2 : tie.Need-returns-2 Inv-loop μ-loop
 returns-2 c =
-    let l = c .before in
-    let c0 = l .before .before .before .before .before .before .before .before .before .before .before .before .before .before in
-    let s = c0 .before .before .before in
+    let l = c .before .before in
+    let s = l .before .before .before .before .before .before .before .before .before .before .before .before .before .before .before .before .before .before .before in
     let a = s .args in
     let os = outlinesOf (a .v .now) (a .counts .now) in
     let B = buffer (a .corners .now) (a .links .now) (a .items .now) in
     let D = magnitudeAt os (a .p) in
     let n = length os in
     let A = s .pre .0 in
-    let P = owned-point (s .good .1 .1 .1 .0) (A .point) in
+    let P = owned-point (s .good .1 .1 .1 .1 .0) (A .point) in
     let S = l .loop .inv .0 in
     let k = outlines-length (a .v .now) (a .counts .now) in
-    let m = s .pre .2 in
-    set-search-end os (A .fitting) (A .held) (a .p) P B (s .pre .1) (omega arith) _ (S .among)
-    (upto-none B most (a .p) D n S (c .loop-test .left))
+    let m = s .pre .3 in
+    set-search-end os (A .fitting) (A .held) (a .p) P B (s .pre .2) (omega arith) _ (S .among)
+    (upto-none B most (a .p) D n S (c .before .loop-test .left))
 
 pub search-in-spec : {M : Type 1} → statement M
 search-in-spec =
@@ -295,7 +300,8 @@ search-in-spec =
     μ-loop
     gap-requires
     push-requires
-    cast-t23
+    cast-none-kept
+    none-kept-requires
     loop-holds
     pop-requires
     same-length
