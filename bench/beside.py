@@ -22,6 +22,10 @@ print(f"{'operation':<10} {'inputs':<40} {'now ns':>12} {'was ns':>12} {'now/was
 worst = ('', 0.0)
 for row in now[0]:
     ours = min(r[row][0] for r in now)
+    if row not in was[0]:
+        rust = min(r[row][1] for r in now)
+        print(f"{row:<51} {ours:>12.2f} {'-':>12} {'-':>8} {ours / rust:>8.2f}")
+        continue
     before = min(r[row][0] for r in was)
     rust = min(r[row][1] for r in now + was)
     ratio = ours / before

@@ -21,6 +21,11 @@ static union { unsigned char bytes[8 * PLACES]; double numbers[PLACES]; } lent, 
 static union { unsigned char bytes[40 * NODES]; vk_node records[NODES]; } nodes, nodes_before;
 static uint32_t links[1100], items[1100], list[1100];
 
+/* the lists of vk_set_nearest_many: outlines, with patterns in each two places, and distances */
+#define LISTED 264
+static union { unsigned char bytes[4 * LISTED]; uint32_t words[LISTED]; } near_ones, near_before;
+static union { unsigned char bytes[8 * LISTED]; double numbers[LISTED]; } away, away_before;
+
 static const double square[] = { 0, 0, 4, 0, 4, 4, 0, 4 };
 static const double boxes[] = { 0, 0, 1, 1, 10, 10, 11, 11 };
 static const uint32_t counts[] = { 4 };
@@ -98,11 +103,47 @@ static void nans_in_trees(int k)
                 memcmp(nodes.bytes + used, nodes_before.bytes + used, sizeof nodes.bytes - used) == 0, 1);
 }
 
+/* Both lists have the bytes that they had from the place `used` on, and the index buffer from `cleared` on. */
+static void expect_lists_kept(const char *call, int k, uint32_t number, uint32_t want, size_t used, size_t cleared)
+{
+    expect_kept(call, k, number, want, cleared);
+    checks += 2;
+    if (memcmp(near_ones.bytes + 4 * used, near_before.bytes + 4 * used, sizeof near_ones.bytes - 4 * used) == 0
+        && memcmp(away.bytes + 8 * used, away_before.bytes + 8 * used, sizeof away.bytes - 8 * used) == 0)
+        return;
+    failures++;
+    printf("%s, pattern %d: a place of the lists that is not written to has other bytes\n", call, k);
+}
+
+static void nans_in_many(int k)
+{
+    static const double points[] = { 1, 1, 6, 2, 5, 5 };
+    static const uint32_t none[1] = { 0 };
+    union { unsigned char bytes[8 * 6]; double numbers[6]; } bad;
+    uint32_t found;
+    blank_lists(k);
+    fill_bytes(near_ones.bytes, LISTED / 2, k);
+    fill_bytes(away.bytes, LISTED, k);
+    memcpy(near_before.bytes, near_ones.bytes, sizeof near_before.bytes);
+    memcpy(away_before.bytes, away.bytes, sizeof away_before.bytes);
+    fill_bytes(bad.bytes, 6, k);
+#define MANY(vertices, len, points, points_len) \
+    vk_set_nearest_many(vertices, len, len == 0 ? none : counts, len == 0 ? 0 : 1, points, points_len, INDEX, \
+                        near_ones.words, LISTED, away.numbers, LISTED, &found)
+    expect_lists_kept("many, 2", k, MANY(square, 6, points, 6), 2, 0, 0);
+    expect_lists_kept("many, 15", k, MANY(square, 8, points, 5), 15, 0, 0);
+    expect_lists_kept("many of NaNs", k, MANY(square, 8, bad.numbers, 6), 10, 0, 0);
+    expect_lists_kept("many, no points", k, MANY(square, 8, points, 0), 0, 0, 2044);
+    expect_lists_kept("many, empty set", k, MANY(square, 0, points, 6), 0, 0, 2044);
+    expect_lists_kept("many", k, MANY(square, 8, points, 6), 0, 3, 2044);
+}
+
 void nans(void)
 {
     int k;
     for (k = 0; k < COUNT(patterns); k++) {
         nans_in_outlines(k);
         nans_in_trees(k);
+        nans_in_many(k);
     }
 }

@@ -36,6 +36,7 @@ const char *reason(uint32_t number)
     case 12: return "a bad semi-axis, or a point too close to an axis";
     case 13: return "a lent list that is too short";
     case 14: return "a clipped list that is too long for a half of the buffer";
+    case 15: return "an odd count of points' numbers, or too many points";
     default: return "?";
     }
 }
@@ -133,7 +134,8 @@ static void near_outline(const scene *s, size_t k, place p)
         printf("; its distance from it is %.12g, with the normal (%.6g, %.6g).\n", distance, x, y);
 }
 
-static void at_point(const scene *s, place p)
+/* Says whether the point is accepted. */
+static int at_point(const scene *s, place p)
 {
     static index_space w;
     uint32_t any, found, outline, number;
@@ -143,17 +145,42 @@ static void at_point(const scene *s, place p)
     printf("(%g, %g): ", p.x, p.y);
     if (number != 0) {
         refused("the point", number);
-        return;
+        return 0;
     }
     number = vk_set_nearest(s->vertices, s->numbers, s->counts, s->outlines, p.x, p.y, w.corners, 4 * 511,
                             w.links, 2 * 511, w.items, 1024, &found, &outline, &distance);
     printf("%s outline contains it; ", any ? "an" : "no");
     if (number != 0 || !found) {
         printf("there is none.\n");
-        return;
+        return 1;
     }
     printf("the nearest is outline %u, %.12g away.\n", (unsigned)outline, distance);
     near_outline(s, outline, p);
+    return 1;
+}
+
+/* The accepted points' nearest outlines, in one call. */
+static void at_points(const scene *s)
+{
+    static index_space w;
+    double points[2 * MOST_POINTS], distances[256];
+    uint32_t outlines[256], found, number;
+    size_t i, len = 0;
+    for (i = 0; i < s->asked; i++)
+        if (at_point(s, s->points[i])) {
+            points[len++] = s->points[i].x;
+            points[len++] = s->points[i].y;
+        }
+    number = vk_set_nearest_many(s->vertices, s->numbers, s->counts, s->outlines, points, len, w.corners, 4 * 511,
+                                 w.links, 2 * 511, w.items, 1024, outlines, 256, distances, 256, &found);
+    if (number != 0)
+        refused("The list of points", number);
+    else if (found) {
+        printf("In one call the nearest are");
+        for (i = 0; i < len / 2; i++)
+            printf("%s outline %u, %.6g away", i > 0 ? ";" : "", (unsigned)outlines[i], distances[i]);
+        printf(".\n");
+    }
 }
 
 /* The tree over the outlines' boxes, and which of them meet a cell. */
@@ -246,8 +273,7 @@ int main(int argc, char **argv)
     for (i = 0; i < s.outlines; i++)
         measures(&s, i);
     tree(&s);
-    for (i = 0; i < s.asked; i++)
-        at_point(&s, s.points[i]);
+    at_points(&s);
     ellipses(&s);
     return picture(argv[2], &s);
 }

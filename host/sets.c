@@ -1,4 +1,4 @@
-/* Tests of the queries over a set. */
+/* Tests of the queries over a set: for one point, and for many. */
 #include <stdio.h>
 #include <stdlib.h>
 #include <string.h>
@@ -236,10 +236,189 @@ static void set_sizes(void)
     test_set(306, q, stated, refused(4));
 }
 
+/* The lists of vk_set_nearest_many, with the places around them. */
+#define MOST 256
+typedef struct {
+    uint32_t outlines[MOST + MORE + 2 * GUARD];
+    double distances[MOST + MORE + 2 * GUARD];
+} listed;
+
+static listed lists, wanted_lists;
+
+/* The lengths that a call is told of them. */
+typedef struct { size_t outlines, distances; } rooms;
+static const rooms full = { MOST, MOST }, more = { MOST + 3, MOST + 5 };
+
+static void blank_lists(listed *l)
+{
+    int i;
+    for (i = 0; i < COUNT(l->outlines); i++) {
+        l->outlines[i] = stale_word;
+        l->distances[i] = from_bits(stale);
+    }
+}
+
+/* What single calls answer for an accepted call's points, in the lists that are wanted. */
+static void one_by_one(int line, query q, const double *points, size_t len)
+{
+    uint32_t found;
+    size_t i;
+    for (i = 0; i < len / 2 && q.outlines > 0; i++)
+        expect_word("vk_set_nearest, a point of many", line,
+                    vk_set_nearest(q.vertices, q.len, q.counts, q.outlines, points[2 * i], points[2 * i + 1],
+                                   LENT(stated), &found, wanted_lists.outlines + GUARD + i,
+                                   wanted_lists.distances + GUARD + i), 0);
+}
+
+/* The query's own point is not asked about. What is lent to be read must stay as it was too. */
+static void test_many(int line, query q, const double *points, size_t len, lengths n, rooms m, uint32_t number)
+{
+    static double points_before[2 * MOST + 8];
+    uint32_t found = stale_word;
+    if (len > 0)
+        memcpy(points_before, points, len * sizeof *points);
+    blank_lists(&wanted_lists);
+    blank(&wanted);
+    if (number == 0) {
+        one_by_one(line, q, points, len);
+        clear(&wanted);
+    }
+    blank(&given);
+    blank_lists(&lists);
+    expect_word("vk_set_nearest_many", line,
+                vk_set_nearest_many(q.vertices, q.len, q.counts, q.outlines, points, len, LENT(n),
+                                    lists.outlines + GUARD, m.outlines, lists.distances + GUARD, m.distances,
+                                    &found), number);
+    expect_word("vk_set_nearest_many, found", line, found, number == 0 && q.outlines > 0);
+    expect_spaces("vk_set_nearest_many", line);
+    expect_word("vk_set_nearest_many, outlines", line,
+                memcmp(lists.outlines, wanted_lists.outlines, sizeof lists.outlines) == 0, 1);
+    expect_word("vk_set_nearest_many, distances", line,
+                memcmp(lists.distances, wanted_lists.distances, sizeof lists.distances) == 0, 1);
+    expect_word("vk_set_nearest_many, points", line,
+                len == 0 || memcmp(points, points_before, len * sizeof *points) == 0, 1);
+}
+
+/* Points around S and S moved: of two that follow each other, each is nearest to another of the two. */
+static double around[2 * MOST + 8];
+
+static void place_points(void)
+{
+    int i;
+    for (i = 0; i < COUNT(around) / 2; i++) {
+        around[2 * i] = i % 2 ? 16 - i / 32.0 : i / 64.0 - 4;
+        around[2 * i + 1] = i % 7 - 1.5;
+    }
+}
+
+static void many_answers(void)
+{
+    static const double four[] = { 7, 2, 7.5, 2, 12, 2, 1, 2 }, ends[] = { 1048576, -1048576, -0.0, 0, 0, 0, 0, 0 };
+    static const uint32_t nearest[] = { 0, 1, 1, 0 };
+    static const double away[] = { 3, 2.5, 2, 1 };
+    static const size_t counts[] = { 0, 1, 2, 3, 128, 255, 256 };
+    query empty = { 0, 0, 0, 0, 0, 0 };
+    int i, outlines;
+    test_many(400, of(2, 0, 0), LIST(four), stated, full, 0);
+    for (i = 0; i < 4; i++) {
+        expect_word("vk_set_nearest_many, outline", i, lists.outlines[GUARD + i], nearest[i]);
+        expect("vk_set_nearest_many, distance", i, lists.distances[GUARD + i], to_bits(away[i]));
+    }
+    test_many(401, of(3, 0, 0), LIST(ends), longer, more, 0);
+    test_many(402, of(2, 0, 0), 0, 0, stated, full, 0);
+    test_many(403, empty, 0, 0, stated, full, 0);
+    test_many(404, empty, 0, 0, longer, more, 0);
+    for (outlines = 0; outlines <= 3; outlines++)
+        for (i = 0; i < COUNT(counts); i++) {
+            query q = outlines > 0 ? of((size_t)outlines, 0, 0) : empty;
+            test_many(410 + 20 * outlines + i, q, around, 2 * counts[i], stated, full, 0);
+            test_many(420 + 20 * outlines + i, q, around, 2 * counts[i], longer, more, 0);
+        }
+}
+
+/* A set's refusals, then 15, then 10 over all points, then 13 for each of the five lists. */
+static void many_order(void)
+{
+    static const size_t lens[] = { 1, 3, 511, 513, 514, 515 };
+    static const double reversed[] = { 0, 0, 0, 4, 4, 4, 4, 0 };
+    const lengths none = { 0, 0, 0, 0 };
+    const rooms no_room = { 0, 0 }, few_outlines = { MOST - 1, MOST }, few_distances = { MOST, MOST - 1 };
+    query bad_set = of(1, 0, 0);
+    double list[2 * MOST + 8], bad[4];
+    int i, k, outlines;
+    bad[0] = from_bits(not_a_number);
+    bad[1] = -from_bits(infinity);
+    bad[2] = from_bits(past_field_end);
+    bad[3] = -from_bits(past_field_end);
+    bad_set.vertices = reversed;
+    memcpy(list, around, sizeof list);
+    list[0] = bad[0];
+    for (i = 0; i < COUNT(lens); i++) {
+        test_many(500 + i, bad_set, list, lens[i], none, no_room, 9);
+        for (outlines = 0; outlines <= 2; outlines += 2) {
+            test_many(510 + i, of((size_t)outlines, 0, 0), around, lens[i], stated, full, 15);
+            test_many(520 + i, of((size_t)outlines, 0, 0), list, lens[i], none, no_room, 15);
+        }
+    }
+    bad_set.len = 7;
+    test_many(530, bad_set, list, 514, none, no_room, 1);
+    bad_set.len = 6;
+    test_many(531, bad_set, list, 514, none, no_room, 2);
+    /* a bad number at any place, the last point's too */
+    for (i = 0; i < 4; i++)
+        for (k = 0; k < 2 * MOST; k += k < 6 || k > 504 ? 1 : 83) {
+            memcpy(list, around, sizeof list);
+            list[k] = bad[i];
+            test_many(1000 + 512 * i + k, of(2, 0, 0), list, 2 * MOST, stated, full, 10);
+            test_many(1000 + 512 * i + k, of(2, 0, 0), list, 2 * ((size_t)k / 2 + 1), none, no_room, 10);
+            test_many(1000 + 512 * i + k, of(0, 0, 0), list, 2 * ((size_t)k / 2 + 1), none, no_room, 10);
+            /* past the points it is not read */
+            test_many(1000 + 512 * i + k, of(2, 0, 0), list, 2 * ((size_t)k / 2), stated, full, 0);
+        }
+    for (outlines = 0; outlines <= 2; outlines++)
+        for (i = 0; i <= 2 * MOST; i += MOST) {
+            query q = of((size_t)outlines, 0, 0);
+            for (k = 0; k < 3; k++)
+                test_many(540 + k, q, around, (size_t)i, shorter(k), full, 13);
+            test_many(543, q, around, (size_t)i, stated, few_outlines, 13);
+            test_many(544, q, around, (size_t)i, stated, few_distances, 13);
+            test_many(545, q, around, (size_t)i, none, no_room, 13);
+        }
+}
+
+/* As many outlines and points as there may be. */
+static void many_sizes(void)
+{
+    static double list[8 * 1024], points[2 * MOST];
+    static uint32_t counts[1024];
+    query q = { list, 8 * 1024, counts, 1024, 0, 0 };
+    int i;
+    for (i = 0; i < 1024; i++) {
+        double *v = list + 8 * i, x = i * 37 % 101, y = i * 53 % 97;
+        counts[i] = 4;
+        v[0] = v[6] = x;
+        v[2] = v[4] = x + 1;
+        v[1] = v[3] = y;
+        v[5] = v[7] = y + 1;
+    }
+    for (i = 0; i < MOST; i++) {
+        points[2 * i] = i * 29 % 103 + 0.25;
+        points[2 * i + 1] = i * 41 % 99 - 0.5;
+    }
+    test_many(600, q, points, 2 * MOST, stated, full, 0);
+    q.len = 8 * 33;
+    q.outlines = 33;
+    test_many(601, q, points, 2 * MOST, stated, full, 0);
+}
+
 void sets(void)
 {
     set_answers();
     set_counts();
     set_order();
     set_sizes();
+    place_points();
+    many_answers();
+    many_order();
+    many_sizes();
 }

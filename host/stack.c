@@ -15,6 +15,7 @@
 #define PAINT 0xa5
 
 static double outline[2 * 4096], outlines[2 * 65536], boxes[4096], work[16 * 4096], corners[2044];
+static double points[512], distances[256];
 static uint32_t counts[1024], links[1022], items[1024], list[1024];
 static vk_node nodes[511];
 
@@ -51,6 +52,12 @@ static uint32_t nearest(void)
 {
     return vk_set_nearest(outlines, 2 * 65536, counts, 1024, 5, 5, corners, 2044, links, 1022, items, 1024, &n0, &n1,
                           &d0);
+}
+
+static uint32_t nearest_many(void)
+{
+    return vk_set_nearest_many(outlines, 2 * 65536, counts, 1024, points, 512, corners, 2044, links, 1022, items, 1024,
+                               list, 256, distances, 256, &n0);
 }
 
 typedef struct { const char *name; uint32_t (*call)(void); uint32_t number; } measured;
@@ -102,6 +109,10 @@ static void prepare(void)
             v[1] = y + (i < 63 ? 0 : 1);
         }
     }
+    for (i = 0; i < 256; i++) {
+        points[2 * i] = i * 29 % 103;
+        points[2 * i + 1] = i * 41 % 99;
+    }
 }
 
 int main(void)
@@ -112,7 +123,8 @@ int main(void)
         { "vk_outline_contains", contains, 0 }, { "vk_outline_locate", locate, 0 },
         { "vk_outline_distance", distance, 0 }, { "vk_outline_fill", fill, 0 },
         { "vk_ellipse_nearest", nearest_point, 0 }, { "vk_index_build", build, 0 }, { "vk_index_nodes", records, 0 },
-        { "vk_index_meeting", meeting, 0 }, { "vk_set_any_at", any_at, 0 }, { "vk_set_nearest", nearest, 0 }
+        { "vk_index_meeting", meeting, 0 }, { "vk_set_any_at", any_at, 0 }, { "vk_set_nearest", nearest, 0 },
+        { "vk_set_nearest_many", nearest_many, 0 }
     };
     static measured none = { "nothing", nothing, 0 };
     size_t i, empty;

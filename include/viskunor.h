@@ -317,8 +317,11 @@ uint32_t vk_index_meeting(const double *boxes, size_t boxes_len,
  *       equal
  *    8  an outline's area works out to zero
  *    9  an outline's area is negative
- *   10  a number of the point is outside the field or not finite
- *   13  the index buffer is shorter than it must be
+ *   15  the list of points has an odd count of numbers, or more than 512: tested
+ *       after 9 and before 10
+ *   10  a number of a point is outside the field or not finite
+ *   13  a lent list is shorter than it must be: the index buffer, or one of the
+ *       two lists of vk_set_nearest_many
  *
  * A refused call writes zero to every answer field and leaves every list as it
  * was. No two of the things that a call is lent may overlap.
@@ -349,6 +352,27 @@ uint32_t vk_set_nearest(const double *vertices, size_t vertices_len,
                         double *corners, size_t corners_len, uint32_t *links, size_t links_len,
                         uint32_t *items, size_t items_len,
                         uint32_t *found, uint32_t *outline, double *distance);
+
+/*
+ * The same for each of 0 to 256 points: what vk_set_nearest gives for them one by
+ * one, in their order. The set is tested, and the tree built, once.
+ *   points: x then y of each point; points_len counts numbers.
+ *   refusals: 1 to 9, 15, 10, 13, in this order. 15: points_len is odd or above
+ *     512. 10 runs over all points: one that is turned away refuses the call.
+ *     13: the index buffer, or outlines_len or distances_len below 256, however
+ *     many points there are.
+ *   outlines, distances: place i of each gets the number and the magnitude of
+ *     point i's nearest outline; the places past the points stay as they were.
+ *   found: 1 over a set that has an outline, for no points too, and 0 over an
+ *     empty set, where both lists stay as they were.
+ */
+uint32_t vk_set_nearest_many(const double *vertices, size_t vertices_len,
+                             const uint32_t *counts, size_t counts_len,
+                             const double *points, size_t points_len,
+                             double *corners, size_t corners_len, uint32_t *links, size_t links_len,
+                             uint32_t *items, size_t items_len,
+                             uint32_t *outlines, size_t outlines_len,
+                             double *distances, size_t distances_len, uint32_t *found);
 
 #ifdef __cplusplus
 }

@@ -3,8 +3,8 @@
 //!
 //! Both sides are called, not inlined, but in the rows that say so. A chain makes each call wait for
 //! the answer before it (latency); a stream does not (throughput). Each figure is the best of several
-//! repetitions. Arguments name the groups to time (numbers, outlines, ellipses, fills, indexes, sets);
-//! none means all.
+//! repetitions. Arguments name the groups to time (numbers, outlines, ellipses, fills, indexes, sets,
+//! many); none means all. With `--cfg without_many` there is no group many: earlier libraries lack its call.
 #![allow(dead_code)] // the oracle's modules hold more than is timed yet
 
 mod ellipses;
@@ -12,6 +12,8 @@ mod fills;
 mod indexes;
 #[path = "../../oracle/src/library.rs"]
 mod library;
+#[cfg(not(without_many))]
+mod many;
 mod numbers;
 #[path = "../../oracle/src/original.rs"]
 mod original;
@@ -26,13 +28,15 @@ mod table;
 fn main() {
     original::self_check();
     let asked: Vec<String> = std::env::args().skip(1).collect();
-    let groups: [(&str, fn(&mut table::Table)); 6] = [
+    let groups: &[(&str, fn(&mut table::Table))] = &[
         ("numbers", numbers::rows),
         ("outlines", outlines::rows),
         ("ellipses", ellipses::rows),
         ("fills", fills::rows),
         ("indexes", indexes::rows),
         ("sets", sets::rows),
+        #[cfg(not(without_many))]
+        ("many", many::rows),
     ];
     let mut table = table::Table::new();
     for (name, rows) in groups {

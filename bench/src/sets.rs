@@ -14,13 +14,13 @@ use std::hint::black_box;
 /// Points of a row: each figure is the mean over them.
 const POINTS: usize = 16;
 
-/// Rings of 4 to 12 corners spread over a square field.
-fn outlines(n: usize) -> Vec<Vec<f64>> {
+/// Rings spread over a square field; `corners` says how many corners ring k has.
+pub fn outlines(n: usize, corners: impl Fn(usize) -> usize) -> Vec<Vec<f64>> {
     let mut r = Random::new(1, "sets");
     let side = (n as f64).sqrt() * 4.0;
     let mut one = |k: usize| {
         let (x, y) = (side * (r.digits() - 1.0), side * (r.digits() - 1.0));
-        let (n, size) = (4 + k % 9, r.digits());
+        let (n, size) = (corners(k), r.digits());
         let corner = |i: usize| {
             let (sin, cos) = (TAU * (i as f64 + 0.3) / n as f64).sin_cos();
             [x + size * cos, y + size * sin]
@@ -30,8 +30,16 @@ fn outlines(n: usize) -> Vec<Vec<f64>> {
     (0..n).map(&mut one).collect()
 }
 
+/// Points spread over the field of n rings.
+pub fn points(n: usize, count: usize) -> Vec<[f64; 2]> {
+    let mut r = Random::new(2, "points");
+    let side = (n as f64).sqrt() * 4.0;
+    let mut at = || side * (r.digits() - 1.0);
+    (0..count).map(|_| [at(), at()]).collect()
+}
+
 /// The Rust's index over the outlines, and the polygons.
-fn rust_index(lists: &[Vec<Point>]) -> (Index, Vec<Polygon>) {
+pub fn rust_index(lists: &[Vec<Point>]) -> (Index, Vec<Polygon>) {
     let polygons: Vec<Polygon> = lists.iter().map(|l| polygon(l)).collect();
     let boxes: Vec<_> = polygons.iter().map(|p| p.bounds()).collect();
     (Index::new(&boxes), polygons)
@@ -44,8 +52,14 @@ fn rust_any_at(lists: &[Vec<Point>], p: Point) -> bool {
 }
 
 #[inline(never)]
-fn rust_nearest(lists: &[Vec<Point>], p: Point) -> Option<(usize, f64)> {
+pub fn rust_nearest(lists: &[Vec<Point>], p: Point) -> Option<(usize, f64)> {
     let (index, polygons) = rust_index(lists);
+    kept_nearest(&index, &polygons, p)
+}
+
+/// The query alone, of an index that was built before.
+#[inline(never)]
+pub fn kept_nearest(index: &Index, polygons: &[Polygon], p: Point) -> Option<(usize, f64)> {
     index.nearest(p, |k| polygons[k].distance(p).0.abs())
 }
 
@@ -72,15 +86,12 @@ fn row(
 pub fn rows(table: &mut Table) {
     let mut space = Space::new();
     for n in [16, 256, 1024] {
-        let lists = outlines(n);
+        let lists = outlines(n, |k| 4 + k % 9);
         let vertices: Vec<f64> = lists.concat();
         let counts: Vec<u32> = lists.iter().map(|l| l.len() as u32 / 2).collect();
         let rust: Vec<Vec<Point>> = lists.iter().map(|l| geometry::points(l)).collect();
         let set = || black_box((vertices.as_slice(), counts.as_slice()));
-        let mut r = Random::new(2, "points");
-        let side = (n as f64).sqrt() * 4.0;
-        let mut at = || side * (r.digits() - 1.0);
-        let points: Vec<[f64; 2]> = (0..POINTS).map(|_| [at(), at()]).collect();
+        let points = points(n, POINTS);
         let mut any = 0;
         row(
             table,

@@ -41,6 +41,18 @@ pub fn times(mut ours: impl FnMut(), mut rust: impl FnMut()) -> (f64, f64) {
     (best.0 / n as f64 * 1e9, best.1 / m as f64 * 1e9)
 }
 
+/// The least times of one call of each, in ns, the repetitions in turn.
+pub fn all_times<const N: usize>(mut work: [&mut dyn FnMut(); N]) -> [f64; N] {
+    let times = work.each_mut().map(|w| calls(w));
+    let mut best = [f64::INFINITY; N];
+    for _ in 0..REPETITIONS {
+        for k in 0..N {
+            best[k] = best[k].min(measure(times[k], &mut work[k]) / times[k] as f64 * 1e9);
+        }
+    }
+    best
+}
+
 struct Row {
     operation: String,
     inputs: String,

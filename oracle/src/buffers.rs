@@ -4,7 +4,7 @@ use crate::library::Lent;
 use crate::random::Random;
 
 /// Places before and after a list, which no call may touch.
-const GUARD: usize = 4;
+pub const GUARD: usize = 4;
 
 /// What stands in each place before a call: no call gives it.
 pub const STALE: f64 = f64::from_bits(0xdead_beef_dead_beef);
@@ -12,6 +12,26 @@ pub const STALE_WORD: u32 = 0xdead_beef;
 
 /// The stated sizes: numbers of corners and of links, and items.
 pub const SIZES: [usize; 3] = [2044, 1022, 1024];
+
+/// Lengths for a call's lists: mostly the stated ones, now and then one of them a place short or some more.
+pub fn varied<const N: usize>(sizes: [usize; N], r: &mut Random) -> [usize; N] {
+    let mut lengths = sizes;
+    if r.below(8) == 0 {
+        let k = r.below(N as u64) as usize;
+        lengths[k] = match r.below(4) {
+            0 => lengths[k] - 1,
+            1 => r.below(lengths[k] as u64) as usize,
+            _ => lengths[k] + 1 + r.below(9) as usize,
+        };
+    }
+    lengths
+}
+
+/// What is lent of a list that has the places around it too.
+pub fn middle<T>(list: &mut [T]) -> &mut [T] {
+    let end = list.len() - GUARD;
+    &mut list[GUARD..end]
+}
 
 #[derive(Clone)]
 pub struct Buffers {
@@ -30,26 +50,13 @@ impl Buffers {
         }
     }
 
-    /// Lengths for a call: mostly the stated ones, now and then one place short or some more.
+    /// Lengths for a call.
     pub fn lengths(r: &mut Random) -> [usize; 3] {
-        let mut lengths = SIZES;
-        if r.below(8) == 0 {
-            let k = r.below(3) as usize;
-            lengths[k] = match r.below(4) {
-                0 => lengths[k] - 1,
-                1 => r.below(lengths[k] as u64) as usize,
-                _ => lengths[k] + 1 + r.below(9) as usize,
-            };
-        }
-        lengths
+        varied(SIZES, r)
     }
 
     /// The three lists, as they are lent.
     pub fn lent(&mut self) -> Lent<'_> {
-        fn middle<T>(list: &mut [T]) -> &mut [T] {
-            let end = list.len() - GUARD;
-            &mut list[GUARD..end]
-        }
         Lent {
             corners: middle(&mut self.corners),
             links: middle(&mut self.links),

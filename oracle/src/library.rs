@@ -159,6 +159,25 @@ mod exports {
             outline: *mut u32,
             distance: *mut f64,
         ) -> u32;
+        pub fn vk_set_nearest_many(
+            vertices: *const f64,
+            vertices_len: usize,
+            counts: *const u32,
+            counts_len: usize,
+            points: *const f64,
+            points_len: usize,
+            corners: *mut f64,
+            corners_len: usize,
+            links: *mut u32,
+            links_len: usize,
+            items: *mut u32,
+            items_len: usize,
+            outlines: *mut u32,
+            outlines_len: usize,
+            distances: *mut f64,
+            distances_len: usize,
+            found: *mut u32,
+        ) -> u32;
     }
 }
 
@@ -411,6 +430,38 @@ pub fn set_nearest(
             found,
             outline,
             distance,
+        )
+    }
+}
+
+/// The points are x and y of each; the lists get each point's outline and distance.
+#[inline]
+pub fn set_nearest_many(
+    (vertices, counts): (&[f64], &[u32]),
+    points: &[f64],
+    lent: Lent,
+    (outlines, distances): (&mut [u32], &mut [f64]),
+    found: &mut u32,
+) -> u32 {
+    unsafe {
+        exports::vk_set_nearest_many(
+            address(vertices),
+            vertices.len(),
+            address(counts),
+            counts.len(),
+            address(points),
+            points.len(),
+            address_mut(lent.corners),
+            lent.corners.len(),
+            address_mut(lent.links),
+            lent.links.len(),
+            address_mut(lent.items),
+            lent.items.len(),
+            address_mut(outlines),
+            outlines.len(),
+            address_mut(distances),
+            distances.len(),
+            found,
         )
     }
 }

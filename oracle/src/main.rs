@@ -5,7 +5,8 @@
 //!          --cases N      cases of each number operation (default 10,000,000); a fifth as many
 //!                         outlines, with thirteen calls on each, a fifth as many outlines with a
 //!                         cell to fill, a tenth as many ellipses, and a twentieth as many lists
-//!                         of boxes, with three calls on each, and sets of outlines, with two
+//!                         of boxes, with three calls on each, and sets of outlines, with two;
+//!                         a fiftieth as many sets with many points
 //!          --sample N     no comparison: writes about N cases with the Rust's answers ..
 //!          --to FOLDER    .. to FOLDER/stdin and FOLDER/stdout
 //!
@@ -19,6 +20,7 @@ mod ellipses;
 mod fills;
 mod indexes;
 mod library;
+mod many;
 mod numbers;
 mod original;
 mod outlines;
@@ -74,6 +76,7 @@ fn write_sample(seed: u64, count: u64, folder: PathBuf) -> ExitCode {
     fills::sample(&mut out, seed, count / 20);
     indexes::sample(&mut out, seed, count / 40);
     sets::sample(&mut out, seed, count / 40);
+    many::sample(&mut out, seed, count / 50);
     match out.write(&folder) {
         Ok(()) => ExitCode::SUCCESS,
         Err(e) => {
@@ -93,6 +96,7 @@ fn compare(seed: u64, cases: u64) -> ExitCode {
     fills::compare(&mut report, seed, cases / 5);
     indexes::compare(&mut report, seed, cases / 20);
     sets::compare(&mut report, seed, cases / 20);
+    many::compare(&mut report, seed, cases / 50);
     let equal = report.finish();
     smallest::print();
     println!("{:.1} s", start.elapsed().as_secs_f64());

@@ -111,9 +111,33 @@ pub fn meeting(list: &[f64], cell: [f64; 4], lengths: [usize; 3], room: usize) -
     }
 }
 
-/// What a query over a set gets, with a point and working buffers of these lengths: each test runs over all
-/// outlines before the next.
+/// Whether a number of a point, or of several, is outside the field or not finite.
+fn is_off(points: &[f64]) -> bool {
+    points.iter().any(|x| !(x.abs() <= FIELD))
+}
+
+/// What a query over a set gets, with a point and working buffers of these lengths.
 pub fn set(set: &Set, point: [f64; 2], lengths: [usize; 3]) -> u32 {
+    match outlines(set) {
+        0 if is_off(&point) => 10,
+        0 if is_short(lengths) => 13,
+        number => number,
+    }
+}
+
+/// What the nearest query for many points gets, with lists of these lengths: the index buffer's three,
+/// outlines and distances.
+pub fn many(set: &Set, points: &[f64], [a, b, c, near, away]: [usize; 5]) -> u32 {
+    match outlines(set) {
+        0 if points.len() % 2 == 1 || points.len() > 2 * 256 => 15,
+        0 if is_off(points) => 10,
+        0 if is_short([a, b, c]) || near < 256 || away < 256 => 13,
+        number => number,
+    }
+}
+
+/// Tests 1 to 9 of a set: each runs over all outlines before the next.
+pub fn outlines(set: &Set) -> u32 {
     let (list, counts) = set.parts();
     let sum: u64 = counts.iter().map(|n| u64::from(*n)).sum();
     if list.len() % 2 == 1 {
@@ -125,7 +149,7 @@ pub fn set(set: &Set, point: [f64; 2], lengths: [usize; 3]) -> u32 {
     let outlines = set.outlines();
     let some = |test: &dyn Fn(&[f64]) -> bool| outlines.iter().any(|o| test(o));
     let area = |o: &[f64]| geometry::polygon(o).area();
-    let tests: [(u32, &dyn Fn() -> bool); 9] = [
+    let tests: [(u32, &dyn Fn() -> bool); 7] = [
         (3, &|| some(&|o| o.len() < 6)),
         (4, &|| {
             counts.len() > 1024 || sum > 65_536 || some(&|o| o.len() > 8192)
@@ -137,8 +161,6 @@ pub fn set(set: &Set, point: [f64; 2], lengths: [usize; 3]) -> u32 {
         }),
         (8, &|| some(&|o| area(o) == 0.0)),
         (9, &|| some(&|o| area(o) < 0.0)),
-        (10, &|| point.iter().any(|x| !(x.abs() <= FIELD))),
-        (13, &|| is_short(lengths)),
     ];
     let first = tests.iter().find(|(_, turns_away)| turns_away());
     first.map_or(0, |(number, _)| *number)
@@ -146,8 +168,9 @@ pub fn set(set: &Set, point: [f64; 2], lengths: [usize; 3]) -> u32 {
 
 /// Whether vertex i equals the one after it.
 fn equal_to_next(list: &[f64], i: usize) -> bool {
-    let v = vertices(list);
-    v[i] == v[(i + 1) % v.len()]
+    let n = list.len() / 2;
+    let vertex = |k: usize| [list[2 * (k % n)], list[2 * (k % n) + 1]];
+    vertex(i) == vertex(i + 1)
 }
 
 /// What an ellipse gets: its centre, its semi-axes and the point.

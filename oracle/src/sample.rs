@@ -93,18 +93,19 @@ impl Sample {
     }
 
     /// A query over a set: its vertices and its counts come as lists.
-    fn set(&mut self, operation: &str, set: (&[f64], &[u32]), p: [f64; 2], answer: &str) {
+    fn set(&mut self, operation: &str, set: (&[f64], &[u32]), asked: &str, answer: &str) {
         let (vertices, counts) = set;
         let mut more = format!("{:x}", counts.len());
         for n in counts {
             more += &format!(" {n:x}");
         }
-        more += &format!(" {}", hex_list(&p));
+        more += &format!(" {asked}");
         self.outline(operation, vertices, &more, answer);
     }
 
     pub fn set_any_at(&mut self, set: (&[f64], &[u32]), p: [f64; 2], number: u32, any: u32) {
-        self.set("any_at", set, p, &format!("{number:x} {any:x}"));
+        let answer = format!("{number:x} {any:x}");
+        self.set("any_at", set, &hex_list(&p), &answer);
     }
 
     pub fn set_nearest(
@@ -115,7 +116,28 @@ impl Sample {
         (found, outline, distance): (u32, u32, f64),
     ) {
         let answer = format!("{number:x} {found:x} {outline:x} {}", hex(distance));
-        self.set("nearest", set, p, &answer);
+        self.set("nearest", set, &hex_list(&p), &answer);
+    }
+
+    /// A call for many points, a list, in lists of nines and ones: `short` says which of the two has 255
+    /// places, 0 neither, 1 outlines, 2 distances. The answer has as many places of both as there are
+    /// points, and one more.
+    pub fn set_nearest_many(
+        &mut self,
+        set: (&[f64], &[u32]),
+        points: &[f64],
+        short: u32,
+        [number, found]: [u32; 2],
+        (outlines, distances): (&[u32], &[f64]),
+    ) {
+        let numbers = [format!("{:x}", points.len()), hex_list(points)];
+        let asked = format!("{} {short}", numbers.join(" ").trim_end());
+        let mut answer = format!("{number:x} {found:x}");
+        for n in outlines {
+            answer += &format!(" {n:x}");
+        }
+        let answer = format!("{answer} {}", hex_list(distances));
+        self.set("nearest_many", set, &asked, &answer);
     }
 
     pub fn write(&self, folder: &Path) -> std::io::Result<()> {

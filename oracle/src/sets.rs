@@ -20,7 +20,7 @@ pub struct Set {
 }
 
 impl Set {
-    fn push(&mut self, outline: &[f64]) {
+    pub fn push(&mut self, outline: &[f64]) {
         self.vertices.extend(outline);
         self.counts.push((outline.len() / 2) as u32);
     }
@@ -60,12 +60,12 @@ fn accepted(r: &mut Random) -> Vec<f64> {
 }
 
 /// A square of half-side s about (x, y).
-fn square(x: f64, y: f64, s: f64) -> Vec<f64> {
+pub fn square(x: f64, y: f64, s: f64) -> Vec<f64> {
     vec![x - s, y - s, x + s, y - s, x + s, y + s, x - s, y + s]
 }
 
 /// Set number `i` of a run.
-fn set(i: u64, r: &mut Random) -> Set {
+pub fn set(i: u64, r: &mut Random) -> Set {
     let n = match r.below(256) {
         0 => 1023 + r.below(3),
         1..4 => r.below(1024),
@@ -139,18 +139,34 @@ fn point(set: &Set, r: &mut Random) -> [f64; 2] {
     shapes::point(outlines[r.below(outlines.len() as u64) as usize], r)
 }
 
-/// What the Rust answers of an accepted set: whether an outline holds the point, and the nearest.
-fn rust(set: &Set, [x, y]: [f64; 2]) -> (bool, Option<(usize, f64)>) {
-    let made =
-        |list: &&[f64]| Polygon::new(geometry::points(list)).expect("document 01 accepts it");
-    let polygons: Vec<Polygon> = set.outlines().iter().map(made).collect();
-    let boxes: Vec<_> = polygons.iter().map(|p| p.bounds()).collect();
-    let index = Index::new(&boxes);
-    let p = Point::um(x, y);
-    (
-        index.any_at(p, |k| polygons[k].contains(p)),
-        index.nearest(p, |k| polygons[k].distance(p).0.abs()),
-    )
+/// The Rust's index of an accepted set, and its polygons.
+pub struct Kept {
+    index: Index,
+    polygons: Vec<Polygon>,
+}
+
+impl Kept {
+    pub fn new(set: &Set) -> Kept {
+        let made =
+            |list: &&[f64]| Polygon::new(geometry::points(list)).expect("document 01 accepts it");
+        let polygons: Vec<Polygon> = set.outlines().iter().map(made).collect();
+        let boxes: Vec<_> = polygons.iter().map(|p| p.bounds()).collect();
+        let index = Index::new(&boxes);
+        Kept { index, polygons }
+    }
+
+    /// Whether an outline holds the point.
+    fn any_at(&self, [x, y]: [f64; 2]) -> bool {
+        let p = Point::um(x, y);
+        self.index.any_at(p, |k| self.polygons[k].contains(p))
+    }
+
+    /// The nearest outline and its distance's magnitude.
+    pub fn nearest(&self, [x, y]: [f64; 2]) -> Option<(usize, f64)> {
+        let p = Point::um(x, y);
+        let magnitude = |k: usize| self.polygons[k].distance(p).0.abs();
+        self.index.nearest(p, magnitude)
+    }
 }
 
 /// The fields of a nearest answer: found, outline, distance.
@@ -162,9 +178,10 @@ fn answers(set: &Set, p: [f64; 2], lengths: [usize; 3]) -> (u32, u32, Nearest) {
     if number != 0 {
         return (number, 0, (0, 0, 0.0));
     }
-    let (any, nearest) = rust(set, p);
+    let kept = Kept::new(set);
+    let nearest = kept.nearest(p);
     let nearest = nearest.map_or((0, 0, 0.0), |(k, d)| (1, k as u32, d));
-    (0, u32::from(any), nearest)
+    (0, u32::from(kept.any_at(p)), nearest)
 }
 
 struct Case<'a> {
@@ -223,7 +240,7 @@ impl Set {
 }
 
 /// Sets that every run compares: the ends of the sizes.
-fn fixed() -> Vec<Set> {
+pub fn fixed() -> Vec<Set> {
     let ring = |n: usize| -> Vec<f64> {
         let corner = |i: usize| {
             let (sin, cos) = (i as f64 / n as f64 * std::f64::consts::TAU).sin_cos();

@@ -10,10 +10,10 @@ use lib.ListN.{length}
 use lib.Ieee.{Float}
 use Rattle.boundary.specs.Outline.{count}
 use Rattle.accept.specs.declared.Refusal.{Refusal}
-use Rattle.accept.specs.declared.Refusal.the-variants.{OddCount, TooFew, TooMany, NotFinite, OutsideField, EqualNeighbours, ZeroArea, NegativeArea}
+use Rattle.accept.specs.declared.Refusal.the-variants.{OddCount, BadCounts, TooFew, TooMany, NotFinite, OutsideField, EqualNeighbours, ZeroArea, NegativeArea, BadPoint, BadBox, BadEllipse, ShortBuffer, LongList, BadPointCount}
 use Rattle.accept.specs.declared.Test.{Test}
 use Rattle.accept.specs.declared.Test.the-variants.{Passed, Failed}
-use Rattle.accept.specs.Refusals.{_refusing_when_, given, notFinite, outsideField, equalNeighbours, zeroArea, negativeArea, countTested, valuesTested, shapeTested, outlineTested}
+use Rattle.accept.specs.Refusals.{number, _refusing_when_, given, notFinite, outsideField, equalNeighbours, zeroArea, negativeArea, countTested, valuesTested, shapeTested, outlineTested}
 
 -- ---- one test
 abbrev failed : Test → Bool
@@ -22,6 +22,24 @@ failed (Failed r) = true
 
 pub never : {r : Refusal} → Failed r ≡ Passed → ⊥
 never e = true≢false (ap failed e)
+
+-- a refusal's number is not 0
+pub number-above : (r : Refusal) → 0 < number r
+number-above OddCount = omega arith
+number-above BadCounts = omega arith
+number-above TooFew = omega arith
+number-above TooMany = omega arith
+number-above NotFinite = omega arith
+number-above OutsideField = omega arith
+number-above EqualNeighbours = omega arith
+number-above ZeroArea = omega arith
+number-above NegativeArea = omega arith
+number-above BadPoint = omega arith
+number-above BadBox = omega arith
+number-above BadEllipse = omega arith
+number-above ShortBuffer = omega arith
+number-above LongList = omega arith
+number-above BadPointCount = omega arith
 
 -- a test after those before it is passed where they and it are
 pub refusing-passed : (t : Test) (r : Refusal) (fails : Bool) → (t refusing r when fails) ≡ Passed → (t ≡ Passed) × (fails ≡ false)

@@ -37,6 +37,8 @@ const ANY_AT: u64 = 0x616e_795f_6174;
 
 const NEAREST: u64 = 0x6e_6561_7265_7374;
 
+const NEAREST_MANY: u64 = 0x6573_745f_6d61_6e79;
+
 // Two floats and the reader past them.
 pub struct Pair {
     pub x: f64,
@@ -228,6 +230,9 @@ fn answer_of(name: u64, buf: &mut [u8], r: Reader, v: &[f64]) -> Reader {
     }
     if name == ANY_AT || name == NEAREST {
         return sets::answer(name == ANY_AT, buf, r, v);
+    }
+    if name == NEAREST_MANY {
+        return sets::answer_many(buf, r, v);
     }
     if name == CONTAINS || name == LOCATE || name == DISTANCE {
         return answer_at(name, buf, r, v);

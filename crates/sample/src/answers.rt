@@ -113,6 +113,16 @@ pub fn print_listed(number: u32, count: u32, list: &[u32]) {
     io::write_all(1, b"\n");
 }
 
+// Writes what the nearest query for many points answers: whether there are outlines, and n places of both lists.
+pub fn print_many(number: u32, found: u32, outlines: &[u32], distances: &[f64], n: usize) {
+    print_number(number);
+    io::write_all(1, b" ");
+    print_number(found);
+    print_numbers(outlines, n);
+    print_list(distances, n);
+    io::write_all(1, b"\n");
+}
+
 // Writes what the nearest query answers.
 pub fn print_nearest(number: u32, found: u32, outline: u32, distance: f64) {
     print_number(number);

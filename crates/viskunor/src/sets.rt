@@ -4,6 +4,7 @@ ghost use mathlib.Core.Path.{_≡_};
 ghost use Rattle.index.specs.Buffer.{buffer};
 ghost use Rattle.any.specs.Answers.{anyCall};
 ghost use Rattle.nearest.specs.Answers.{nearestCall};
+ghost use Rattle.many.specs.Answers.{manyLent, manyCall};
 use accept::answers;
 use boundary::Point;
 
@@ -48,5 +49,35 @@ pub extern "C" fn vk_set_nearest(
     *found = told.found;
     *outline = told.outline;
     *distance = told.distance;
+    told.number
+}
+
+#[no_mangle]
+pub extern "C" fn vk_set_nearest_many(
+    vertices: &[f64],
+    counts: &[u32],
+    points: &[f64],
+    corners: &mut [f64],
+    links: &mut [u32],
+    items: &mut [u32],
+    outlines: &mut [u32],
+    distances: &mut [f64],
+    found: &mut u32,
+) -> u32
+    ensures { λ r. ⌜ record { answer = record { number = r; count = now (found .exit) }; lent = manyLent (now (corners .exit)) (now (links .exit)) (now (items .exit)) (now (outlines .exit)) (now (distances .exit)) }
+        ≡ manyCall (now (vertices .entry)) (now (counts .entry)) (now (points .entry)) (manyLent (now (corners .entry)) (now (links .entry)) (now (items .entry)) (now (outlines .entry)) (now (distances .entry))) ⌝ }
+{
+    let answer = many::nearest_many(
+        vertices,
+        counts,
+        points,
+        corners,
+        links,
+        items,
+        outlines,
+        distances,
+    );
+    let told = answers::count_fields(answer);
+    *found = told.count;
     told.number
 }

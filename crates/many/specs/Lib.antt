@@ -1,0 +1,4 @@
+-- What the nearest query for many points promises (document 02, U1). Definitions only.
+
+-- The tests, and all that the call leaves.
+pub mod Answers
