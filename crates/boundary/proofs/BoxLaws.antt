@@ -1,14 +1,14 @@
 -- The nearest point of an edge lies in the widened box of every box that has the edge's ends, so the gap of every box around that one is at most the distance, over the whole field. Assumes nothing.
 use mathlib.Core.Path.{_≡_, refl}
 use mathlib.Core.List.{[], _∷_}
-use mathlib.Core.Bool.{Bool, true, false, not, cond}
+use mathlib.Core.Bool.{not}
 use Prim.Native.Nat.{ℕ, _*_, _^_}
 use native.Mathlib.Nat.{le-trans, le-refl, mul-le-mul}
 use native.Mathlib.Omega.{arith}
 use lib.Dec.{T, lit≤}
 use lib.IntN.{ℤ, pos, negℤ, _+ℤ_, _-ℤ_, _*ℤ_}
 use lib.Pow.{pow-pos}
-use lib.Ieee.{Float, ofBits, binary64, add, sub, mul, neg, lt, le, eq, isNan, fits}
+use lib.Ieee.{Float, ofBits, binary64, add, sub, mul, neg, lt, le, isNan, fits}
 use lib.Ieee.Fits.{mul-fits}
 use Rattle.algebra.specs.Quote.{quote}
 use Rattle.algebra.specs.Lin as Lin
@@ -23,14 +23,14 @@ use Rattle.number.proofs.Operations.{equation→is, zero-is, finite-is, add-rou
 use Rattle.number.proofs.RoundingLaws.{rounds-order, rounds-neg}
 use Rattle.number.proofs.ExactLaws.{mul-result}
 use Rattle.number.proofs.Monotone.{sub-mono}
-use Rattle.number.proofs.OrderLaws.{is-order, le-self, le-through, not-below}
-use Rattle.number.proofs.MagnitudeOrder.{max-one-of, le-abs, neg-le-abs, abs-nonneg, abs-at-most, le-max-left}
+use Rattle.number.proofs.OrderLaws.{is-order, le-self, le-through}
+use Rattle.number.proofs.MagnitudeOrder.{max-one-of, le-abs, neg-le-abs, abs-nonneg, le-max-left}
 use Rattle.number.proofs.Values.{held-not-nan, rounded-natAbs, is-rounds, rounds-not-nan}
 use Rattle.boundary.specs.declared.Point.{Point}
 use Rattle.boundary.specs.declared.Edge.{Edge}
 use Rattle.boundary.specs.declared.Bounds.{Bounds}
 use Rattle.boundary.specs.Line.{footOf}
-use Rattle.boundary.specs.Boxes.{FieldValue, FieldPoint, FieldEdge, FieldBox, FiniteBox, Between, Share, Inside, greater, hull, edgeBox, leastMargin, nano, scaleOf, widenedBy, widenedOf, Around, gapAlong}
+use Rattle.boundary.specs.Boxes.{FieldValue, FieldPoint, FieldEdge, FieldBox, FiniteBox, Between, Share, Inside, hull, edgeBox, leastMargin, nano, scaleOf, widenedBy, widenedOf, Around, gapAlong}
 use Rattle.boundary.proofs.FieldLaws.{field-held, field-is, field-box-finite, field-not-nan, is-field, field-abs, widened-finite}
 use Rattle.number.proofs.Basics.{one-of}
 use Rattle.boundary.proofs.AlongLaws.{param-share, along-inside, ends-between, along-short}
@@ -179,25 +179,6 @@ module _ {lo hi p q : Float} (L : Held lo) (H : Held hi) (P : Held p) (Q : Held 
   pub gap-along : T (le (gapAlong lo hi p) (absOf (sub binary64 p q)))
   unfolding gapAlong
   gap-along = max-one-of (λ (v : Float). T (le v (absOf d))) (max-one-of (λ (v : Float). T (le v (absOf d))) below above) (abs-nonneg d d-number)
-
-  -- the same without a maximum of IEEE 754, as the search has it
-  abbrev out : Float
-  out = greater (greater (sub binary64 lo p) (sub binary64 p hi)) zeroᶠ
-
-  out-nonneg : T (le zeroᶠ out)
-  out-nonneg = go (greater (sub binary64 lo p) (sub binary64 p hi)) (one-of (λ (v : Float). T (not (isNan v))) (lt (sub binary64 lo p) (sub binary64 p hi)) (rounds-not-nan (sub-rounds (finite-is P .1) (finite-is H .1))) (rounds-not-nan (sub-rounds (finite-is L .1) (finite-is P .1))))
-    where
-      go : (x : Float) → T (not (isNan x)) → T (le zeroᶠ (greater x zeroᶠ))
-      go x n = at (lt x zeroᶠ) refl
-        where
-          at : (c : Bool) → lt x zeroᶠ ≡ c → T (le zeroᶠ (cond c zeroᶠ x))
-          at true e = unfold le lt eq in tt
-          at false e = not-below x zeroᶠ n (unfold isNan in tt) e
-
-  pub out-size : T (le (absOf out) (absOf (sub binary64 p q)))
-  out-size =
-      let below-d : Float → Type 0 = λ v. T (le v (absOf d)) in
-      abs-at-most out (absOf d) out-nonneg (one-of below-d (lt (greater (sub binary64 lo p) (sub binary64 p hi)) zeroᶠ) (abs-nonneg d d-number) (one-of below-d (lt (sub binary64 lo p) (sub binary64 p hi)) above below))
 
 -- the differences from the nearest point, for `hypot-clear`
 pub foot-short : {e : Edge} {p : Point} → FieldEdge e → FieldPoint p → Short (sub binary64 (p .x) (footOf e p .x)) × Short (sub binary64 (p .y) (footOf e p .y))

@@ -170,7 +170,10 @@ unfoldable pub gapOf : Bounds → Point → Float
 unfolding gapAlong
 gapOf b p = hypotOf (gapAlong (b .min .x) (b .max .x) (p .x)) (gapAlong (b .min .y) (b .max .y) (p .y))
 
--- its square before the root: the sum of the two squares
+-- ---- the squared gap, as the searches have it: without a maximum of IEEE 754 and without a root
+unfoldable pub outAlong : Float → Float → Float → Float
+outAlong lo hi p = greater zeroᶠ (greater (sub binary64 lo p) (sub binary64 p hi))
+
 unfoldable pub gapSquaresOf : Bounds → Point → Float
-unfolding gapAlong
-gapSquaresOf b p = squaresOf (record { x = gapAlong (b .min .x) (b .max .x) (p .x); y = gapAlong (b .min .y) (b .max .y) (p .y) })
+unfolding outAlong
+gapSquaresOf b p = squaresOf (record { x = outAlong (b .min .x) (b .max .x) (p .x); y = outAlong (b .min .y) (b .max .y) (p .y) })

@@ -4,7 +4,7 @@ pub mod line;
 
 ghost use mathlib.Core.Path.{_≡_};
 ghost use Prim.Native.Nat.{_<_};
-ghost use Rattle.boundary.specs.Boxes.{lesser, greater};
+ghost use Rattle.boundary.specs.Boxes.{lesser, greater, outAlong};
 ghost use Rattle.boundary.specs.Outline.{count, after, vertexAt, samePoint, edgeAt, edges};
 ghost use Rattle.boundary.specs.Line.{middle};
 ghost use Rattle.boundary.specs.Length.{edgeLength, lengthOf};
@@ -91,6 +91,13 @@ pub fn greater_of(a: f64, b: f64) -> f64
     ensures { λ r. ⌜ r ≡ greater a b ⌝ }
 {
     number::signs::pick(a < b, b, a)
+}
+
+// How far p is outside lo to hi, of one axis.
+pub fn out_along(lo: f64, hi: f64, p: f64) -> f64
+    ensures { λ r. ⌜ r ≡ outAlong lo hi p ⌝ }
+{
+    greater_of(0.0, greater_of(lo - p, p - hi))
 }
 
 // Half the sum.

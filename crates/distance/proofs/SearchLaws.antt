@@ -30,7 +30,8 @@ use Rattle.distance.specs.Nearest.{nearer, farAway, nearestOf}
 use Rattle.boundary.specs.Boxes.{inField, pointInField, edgeInField, PointOf, FieldValue, FieldPoint, FieldEdge, Inside, hull, edgeBox}
 use Rattle.distance.specs.Search.{margin, outside, gapSquares, lengthTo, foundOf, edgeWins}
 use Rattle.boundary.proofs.AlongLaws.{along-fits, between-held}
-use Rattle.boundary.proofs.BoxLaws.{edge-box-field, edge-box-ends, foot-widened, out-size, foot-short}
+use Rattle.boundary.proofs.BoxLaws.{edge-box-field, edge-box-ends, foot-widened, foot-short}
+use Rattle.boundary.proofs.GapLaws.{out-size}
 use Rattle.boundary.proofs.FieldLaws.{field-held, field-box-finite, widened-finite}
 use Rattle.lists.proofs.FoldLaws.{fold-run-next, fold-run-end, any-at}
 
@@ -74,9 +75,9 @@ gap-squares {c} {e} {p} C E P ia ib =
     let w = widened-finite (edge-box-field C) margin-field in
     let i = foot-widened E P (field-box-finite (edge-box-field C)) (field-held margin-field) (unfold le lt eq in tt) ia ib in
     let t = paramOf e p in
-    squares-mono _ _ _ _
-    (out-size (w .min .x) (w .max .x) (field-held (P .x)) (between-held (w .min .x) (w .max .x) (along-fits (e .a .x) (e .b .x) t (E .b .x .fits)) (i .x)) (i .x))
-    (out-size (w .min .y) (w .max .y) (field-held (P .y)) (between-held (w .min .y) (w .max .y) (along-fits (e .a .y) (e .b .y) t (E .b .y .fits)) (i .y)) (i .y))
+    let qx = between-held (w .min .x) (w .max .x) (along-fits (e .a .x) (e .b .x) t (E .b .x .fits)) (i .x) in
+    let qy = between-held (w .min .y) (w .max .y) (along-fits (e .a .y) (e .b .y) t (E .b .y .fits)) (i .y) in
+    squares-mono _ _ _ _ (out-size (field-held (P .x)) qx _ _ (w .min .x .fits) (w .max .x .fits) (i .x)) (out-size (field-held (P .y)) qy _ _ (w .min .y .fits) (w .max .y .fits) (i .y))
 
 module _ {e : Edge} {p : Point} (E : FieldEdge e) (P : FieldPoint p) where
   pub foot-near : PointOf Short (lessPoint p (footOf e p))

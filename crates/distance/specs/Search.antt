@@ -6,14 +6,13 @@ use Prim.Native.Nat.{ℕ, _<_}
 use lib.Dec.{ltb}
 use lib.IntN.{negsuc}
 use lib.Ieee.{Float, fin, binary64, add, sub, lt}
-use Rattle.number.specs.Exact.{zeroᶠ}
 use Rattle.number.specs.Hypot.{hypotOf, clearLimit}
 use Rattle.boundary.specs.declared.Point.{Point}
 use Rattle.boundary.specs.declared.Edge.{Edge}
 use Rattle.distance.specs.declared.FoundEdge.{FoundEdge}
 use Rattle.boundary.specs.Outline.{count, edgeAt, edges}
 use Rattle.boundary.specs.Line.{lessPoint, squaresOf, footOf, lineNear}
-use Rattle.boundary.specs.Boxes.{lesser, greater}
+use Rattle.boundary.specs.Boxes.{lesser, greater, outAlong}
 use Rattle.distance.specs.Nearest.{nearestOf}
 
 -- 2 ^ -20, by which an edge's box is widened
@@ -26,7 +25,7 @@ mostThreshold = fin false 1 (negsuc 24)
 
 -- how far p is outside the ends a and b, widened, of one axis
 unfoldable pub outside : Float → Float → Float → Float
-outside a b p = greater (greater (sub binary64 (sub binary64 (lesser a b) margin) p) (sub binary64 p (add binary64 (greater a b) margin))) zeroᶠ
+outside a b p = outAlong (sub binary64 (lesser a b) margin) (add binary64 (greater a b) margin) p
 
 -- the squared distance of p from the edge's widened box
 unfoldable pub gapSquares : Edge → Point → Float

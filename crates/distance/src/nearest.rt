@@ -20,6 +20,7 @@ use boundary::edge_at;
 use boundary::greater_of;
 use boundary::lesser_of;
 use boundary::line;
+use boundary::out_along;
 use boundary::vertex_at;
 use number::root::clear_limit;
 use number::root::hypot;
@@ -40,9 +41,7 @@ const CLEAR: f64 = 0.0000000298023223876953125;
 fn outside_of(a: f64, b: f64, p: f64) -> f64
     ensures { λ r. ⌜ r ≡ outside a b p ⌝ }
 {
-    let low = lesser_of(a, b) - MARGIN - p;
-    let high = p - (greater_of(a, b) + MARGIN);
-    greater_of(greater_of(low, high), 0.0)
+    out_along(lesser_of(a, b) - MARGIN, greater_of(a, b) + MARGIN, p)
 }
 
 // The squared distance of p from the edge's widened box.

@@ -3,18 +3,16 @@ use mathlib.Core.Path.{_≡_, sym}
 use mathlib.Core.List.{List}
 use Prim.Native.Nat.{ℕ, _≤_, _<_}
 use native.Mathlib.Omega.{arith}
-use lib.Dec.{T}
 use lib.ListN.{length}
-use lib.Ieee.{Float, binary64, sub, le, isNan}
+use lib.Ieee.{Float, binary64, sub, isNan}
 use Rattle.number.specs.Exact.{zeroᶠ}
-use Rattle.number.specs.Signs.{absOf, maxOf}
-use Rattle.number.proofs.OrderLaws.{le-self, left-not-nan, right-not-nan}
-use Rattle.number.proofs.MagnitudeOrder.{abs-nonneg, le-max-right}
-use Rattle.number.proofs.HypotLaws.{squares-mono, hypot-not-nan}
+use Rattle.number.specs.Signs.{maxOf}
+use Rattle.number.proofs.OrderLaws.{right-not-nan}
+use Rattle.number.proofs.MagnitudeOrder.{le-max-right}
+use Rattle.number.proofs.HypotLaws.{hypot-not-nan}
 use Rattle.boundary.specs.declared.Point.{Point}
 use Rattle.boundary.specs.declared.Bounds.{Bounds}
-use Rattle.boundary.specs.Boxes.{FieldPoint, gapAlong, gapOf, gapSquaresOf}
-use Rattle.boundary.specs.Line.{squaresOf}
+use Rattle.boundary.specs.Boxes.{FieldPoint, gapAlong, gapOf}
 use Rattle.search.specs.declared.Entry.{Entry}
 use Rattle.search.specs.Heap.{Pushed}
 use Rattle.boundary.proofs.AroundLaws.{NotNan}
@@ -33,18 +31,6 @@ use Rattle.search.proofs.SearchLaws.{ReadyNode, sizeOf, holdsOf, Search
 along-number : (lo hi p : Float) → NotNan (gapAlong lo hi p)
 unfolding gapAlong
 along-number lo hi p = right-not-nan zeroᶠ (gapAlong lo hi p) (le-max-right (maxOf (sub binary64 lo p) (sub binary64 p hi)) zeroᶠ (unfold isNan in tt))
-
--- squared too
-pub squares-number : (b : Bounds) (p : Point) → NotNan (gapSquaresOf b p)
-unfolding gapSquaresOf
-squares-number b p =
-    let x = gapAlong (b .min .x) (b .max .x) (p .x) in
-    let y = gapAlong (b .min .y) (b .max .y) (p .y) in
-    let s = squaresOf (record { x = x; y = y }) in
-    left-not-nan s s (squares-mono x y x y (size x (along-number (b .min .x) (b .max .x) (p .x))) (size y (along-number (b .min .y) (b .max .y) (p .y))))
-  where
-    size : (z : Float) → NotNan z → T (le (absOf z) (absOf z))
-    size z N = le-self (absOf z) (right-not-nan zeroᶠ (absOf z) (abs-nonneg z N))
 
 pub gap-number : (b : Bounds) (p : Point) → NotNan (gapOf b p)
 unfolding gapOf

@@ -6,7 +6,7 @@ ghost use Prim.Native.Nat.{ℕ, _+_, _<_, _^_};
 ghost use lib.Dec.{T};
 ghost use lib.ListN.{length};
 ghost use lib.Ieee.{binary64, fits};
-ghost use Rattle.boundary.specs.Boxes.{gapAlong, gapSquaresOf};
+ghost use Rattle.boundary.specs.Boxes.{gapSquaresOf};
 ghost use Rattle.lists.specs.Lists.{run, In};
 ghost use Rattle.distance.specs.Search.{gapSquares};
 ghost use Rattle.search.specs.Order.{NumberGap};
@@ -21,11 +21,11 @@ ghost use Rattle.search.specs.Least.{magnitudeAt, leastIn};
 ghost use Rattle.search.specs.Walk.{improved, keptWith, noneKept, Clear, bestOf, Asked, Searched, Opened, entryFor, diagonalOf};
 use boundary::Edge;
 use boundary::Point;
+use boundary::out_along;
 use distance::nearest::gap_squares;
 use distance::nearest::nearest_edge;
 use distance::nearest::squares_to;
 use number::root::hypot;
-use number::signs::max;
 use set::outlines::outline_at;
 
 // A node that waits, with its gap: its squared distance from the point.
@@ -46,20 +46,13 @@ pub struct Kept {
     pub far: f64,
 }
 
-// How far p is outside lo to hi, of one axis.
-fn gap_along(lo: f64, hi: f64, p: f64) -> f64
-    ensures { λ r. ⌜ r ≡ gapAlong lo hi p ⌝ }
-{
-    max(max(lo - p, p - hi), 0.0)
-}
-
 // How far p is outside the box of the node n, squared.
 fn gap(corners: &[f64], n: u32, p: Point) -> f64
     ensures { λ r. ⌜ r ≡ gapSquaresOf (boxAt (now (corners .entry)) n) p ⌝ }
 {
     let b = boxes::box_at(corners, n as usize);
-    let x = gap_along(b.min.x, b.max.x, p.x);
-    let y = gap_along(b.min.y, b.max.y, p.y);
+    let x = out_along(b.min.x, b.max.x, p.x);
+    let y = out_along(b.min.y, b.max.y, p.y);
     x * x + y * y
 }
 

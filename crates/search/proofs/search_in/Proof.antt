@@ -4,6 +4,7 @@ use Prim.Native.Nat.{ℕ, _≤_}
 use native.Mathlib.Omega.{arith}
 use lib.ListN.{length}
 use Rattle.boundary.proofs.KnownLaws.{owned-point}
+use Rattle.boundary.proofs.GapLaws.{squares-number}
 use Rattle.search.specs.Heap.{entryAt, totalWeight}
 use Rattle.search.proofs.HeapLaws.{heaped-none}
 use Rattle.index.specs.Buffer.{buffer}
@@ -11,7 +12,7 @@ use Rattle.set.specs.Set.{outlinesOf}
 use Rattle.set.proofs.SetLaws.{outlines-length}
 use Rattle.search.specs.Least.{magnitudeAt}
 use Rattle.search.proofs.SearchLaws.{sizeOf, Searching, searching-few, popped-less, looked-within, searching-leaf, children-small, opened-less, searching-inner, upto-above, upto-none}
-use Rattle.search.proofs.SetSearch.{most, squares-number, magnitude-numbers, set-search-first, set-search-end}
+use Rattle.search.proofs.SetSearch.{most, magnitude-numbers, set-search-first, set-search-end}
 use borrow.Author.Needs.{needs}
 use Rattle.search.proofs.search_in.Statement.{statement}
 use Rattle.search.proofs.search_in.Tie as tie
