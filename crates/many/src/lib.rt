@@ -94,7 +94,18 @@ fn put_answers_in(
     let mut i = 0;
     while i < n {
         let p = vertex_at(points, i);
-        let best = search::search_in(v, counts, starts, p, corners, links, items, nodes, gaps);
+        let best = search::search_in(
+            v,
+            counts,
+            starts,
+            boxes,
+            p,
+            corners,
+            links,
+            items,
+            nodes,
+            gaps,
+        );
         lists::put(outlines, i, best.outline);
         lists::put_number(distances, i, best.distance);
         i += 1;

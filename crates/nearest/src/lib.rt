@@ -3,7 +3,7 @@ pub mod answers;
 
 ghost use mathlib.Core.Path.{_≡_};
 ghost use mathlib.Core.Bool.{true};
-ghost use Prim.Native.Nat.{_≤_, _<_};
+ghost use Prim.Native.Nat.{_*_, _≤_, _<_};
 ghost use lib.ListN.{length};
 ghost use Rattle.boundary.specs.Boxes.{pointInField};
 ghost use Rattle.index.specs.Buffer.{buffer};
@@ -37,31 +37,32 @@ pub enum Nearest {
 }
 
 // The nearest of the outlines of a set that passed the tests: its index is built in the lent buffers, and
-// cleared. The first list is lent for the starts.
+// cleared. The lists of starts and boxes are lent to work in.
 fn found_in(
     v: &[f64],
     counts: &[u32],
     p: Point,
     starts: &mut [u32],
+    boxes: &mut [f64],
     corners: &mut [f64],
     links: &mut [u32],
     items: &mut [u32],
 ) -> Best
     requires { ⌜ Ready (now v) (now counts) (buffer (now corners) (now links) (now items)) × (pointInField p ≡ true)
-        × (0 < length (now counts)) × (length (now counts) ≤ length (now starts)) ⌝ }
+        × (0 < length (now counts)) × (length (now counts) ≤ length (now starts)) × (4 * length (now counts) ≤ length (now boxes)) ⌝ }
     ensures { λ r. ⌜ record { answer = r; lent = buffer (now (corners .exit)) (now (links .exit)) (now (items .exit)) }
         ≡ worked (leastIn (outlinesOf (now (v .entry)) (now (counts .entry))) p) (buffer (now (corners .entry)) (now (links .entry)) (now (items .entry))) ⌝ }
 {
     search::all_held(v);
     outlines::put_starts(counts, starts);
-    frame::index_set(v, counts, corners, links, items);
-    let best = search::search(v, counts, starts, p, corners, links, items);
+    frame::index_in(v, counts, boxes, corners, links, items);
+    let best = search::search(v, counts, starts, boxes, p, corners, links, items);
     building::clear(corners, links, items);
     best
 }
 
-// The same, with its own space for the starts: that of 32 outlines, where it is enough, since it is filled
-// with zeros first.
+// The same, with its own space for the starts and the boxes: that of 32 outlines, where it is enough, since it
+// is filled with zeros first.
 fn found(
     v: &[f64],
     counts: &[u32],
@@ -77,10 +78,12 @@ fn found(
 {
     if counts.len() <= 32 {
         let mut starts = [0; 32];
-        return found_in(v, counts, p, &mut starts, corners, links, items);
+        let mut boxes = [0.0; 128];
+        return found_in(v, counts, p, &mut starts, &mut boxes, corners, links, items);
     }
     let mut starts = [0; 1024];
-    found_in(v, counts, p, &mut starts, corners, links, items)
+    let mut boxes = [0.0; 4096];
+    found_in(v, counts, p, &mut starts, &mut boxes, corners, links, items)
 }
 
 // The answer over a set that passed the tests.

@@ -37,7 +37,7 @@ search-in-requires c κs =
     let l = c .before .before .before .before in
     let s = l .before .before .before .before .before .before .before .before .before .before .before .before .before in
     let A = s .pre .0 in
-    (rw (c .before .before .vertex-at .ensures) (A .each (l .loop .i) (search needs)), s .pre .1, A .some, search needs, search needs)
+    (rw (c .before .before .vertex-at .ensures) (A .each (l .loop .i) (search needs)), A .boxed, s .pre .1, A .some, search needs, search needs)
 
 put-requires : tie.Need-put-requires Inv-loop μ-loop
 put-requires c κs = search needs
