@@ -59,20 +59,20 @@ module _ (v : List Float) (cs : List ℕ) (ps : List Float) (L : ManyLent) where
       go : (t : Test) → manyTested v cs ps L ≡ t → ManyPassed v cs ps L
       go Passed p = many-passed v cs ps L p
       go (Failed r) p =
-          let z = sym (ap (λ (o : Outcome CountFields ManyLent). o .answer .number) (ap (inFields countFields) (given-failed p (manyWorked os ps L) (refusedWith L)))) ∙ e in
+          let z = sym (ap (λ (o : Outcome CountFields ManyLent). o .answer .number) (ap (inFields countFields) (given-failed p (manyWorked v cs ps L) (refusedWith L)))) ∙ e in
           let n = number-above r in
           absurd (omega arith)
 
   -- REFUSED: the refusal's number, and all that was lent as it was
   pub refused-leaves : {r : Refusal} → manyTested v cs ps L ≡ Failed r → manyCall v cs ps L ≡ record { answer = record { number = number r; count = 0 }; lent = L }
   unfolding manyCall manyOutcome
-  refused-leaves p = ap (inFields countFields) (given-failed p (manyWorked os ps L) (refusedWith L))
+  refused-leaves p = ap (inFields countFields) (given-failed p (manyWorked v cs ps L) (refusedWith L))
 
   -- ---- a call that passes the tests
   module _ (passed : manyTested v cs ps L ≡ Passed) where
-    call-is : manyCall v cs ps L ≡ inFields countFields (manyWorked os ps L)
+    call-is : manyCall v cs ps L ≡ inFields countFields (manyWorked v cs ps L)
     unfolding manyCall manyOutcome
-    call-is = ap (inFields countFields) (given-passed passed (manyWorked os ps L) (refusedWith L))
+    call-is = ap (inFields countFields) (given-passed passed (manyWorked v cs ps L) (refusedWith L))
 
     -- NONE over an empty set: neither list is written
     pub none-over-empty : length cs ≡ 0 → manyCall v cs ps L ≡ record { answer = record { number = 0; count = 0 }; lent = record { buffer = cleared (L .buffer); lists = L .lists } }

@@ -92,12 +92,12 @@ abbrev pub leaving : List NearestFields → ManyLent → ManyLent
 leaving answers L = record { buffer = cleared (L .buffer); lists = withAnswers answers (L .lists) }
 
 -- where the tests are passed
-unfoldable pub manyWorked : List Outline → List Float → ManyLent → Outcome Answer ManyLent
-manyWorked os ps L = record { answer = Count (foundOver os); lent = leaving (writtenOf os ps) L }
+unfoldable pub manyWorked : List Float → List ℕ → List Float → ManyLent → Outcome Answer ManyLent
+manyWorked v cs ps L = let os = outlinesOf v cs in record { answer = Count (foundOver os); lent = leaving (writtenOf os ps) L }
 
 -- where they are not, the refusal, and all as it was
 unfoldable pub manyOutcome : List Float → List ℕ → List Float → ManyLent → Outcome Answer ManyLent
-manyOutcome v cs ps L = given (manyTested v cs ps L) (manyWorked (outlinesOf v cs) ps L) (refusedWith L)
+manyOutcome v cs ps L = given (manyTested v cs ps L) (manyWorked v cs ps L) (refusedWith L)
 
 -- the same, with the answer in its fields
 unfoldable pub manyCall : List Float → List ℕ → List Float → ManyLent → Outcome CountFields ManyLent
@@ -111,6 +111,14 @@ pub record ManyReady (v : List Float) (cs : List ℕ) (ps : List Float) (L : Man
   pub few : count ps ≤ pointPlaces
   pub outlines : pointPlaces ≤ length (L .lists .outlines)
   pub distances : pointPlaces ≤ length (L .lists .distances)
+
+-- both lists have a place for each point
+abbrev pub RoomFor : List Float → AnswerLists → Type 0
+RoomFor ps L = (count ps ≤ length (L .outlines)) × (count ps ≤ length (L .distances))
+
+-- what it leaves over a set that has an outline
+unfoldable pub manyLeft : List Float → List ℕ → List Float → ManyLent → ManyLent
+manyLeft v cs ps L = leaving (answersOf (outlinesOf v cs) ps) L
 
 -- a set that has an outline and may be asked about each of the points, with its starts in S and its boxes in X
 pub record AllAsked (v : List Float) (cs S : List ℕ) (X ps : List Float) : Type 0 where

@@ -1,12 +1,12 @@
 // The nearest outline for each of many points: the set is tested once, its index built once.
 ghost use mathlib.Core.Path.{_≡_};
-ghost use Prim.Native.Nat.{_*_, _≤_, _<_};
+ghost use Prim.Native.Nat.{_<_};
 ghost use lib.ListN.{length};
 ghost use Rattle.index.specs.Buffer.{buffer};
 ghost use Rattle.set.specs.Set.{outlinesOf};
-ghost use Rattle.search.specs.Walk.{Searched};
-ghost use Rattle.boundary.specs.Outline.{count};
-ghost use Rattle.many.specs.Answers.{answerLists, manyLent, badPointCount, anyBadPoint, manyTested, answersOf, withAnswers, leaving, manyWorked, manyOutcome, ManyReady, AllAsked};
+ghost use Rattle.set.specs.Answers.{SetSpace};
+ghost use Rattle.search.specs.Walk.{Searched, HeapSpace};
+ghost use Rattle.many.specs.Answers.{answerLists, manyLent, badPointCount, anyBadPoint, manyTested, answersOf, withAnswers, manyLeft, manyWorked, manyOutcome, ManyReady, RoomFor, AllAsked};
 use accept::Answer;
 use accept::Refusal;
 use accept::Test;
@@ -20,21 +20,21 @@ use set::outlines::put_starts;
 use set::refusals::set_tested;
 
 // Test 15.
-fn bad_point_count(points: &[f64]) -> bool
-    ensures { λ r. ⌜ r ≡ badPointCount (now (points .entry)) ⌝ }
+fn bad_point_count(ps: &[f64]) -> bool
+    ensures { λ r. ⌜ r ≡ badPointCount (now (ps .entry)) ⌝ }
 {
-    (points.len() % 2 == 1) | (256 < points.len() / 2)
+    (ps.len() % 2 == 1) | (256 < ps.len() / 2)
 }
 
 // Test 10, over all points.
-fn any_bad_point(points: &[f64]) -> bool
-    ensures { λ r. ⌜ r ≡ anyBadPoint (now (points .entry)) ⌝ }
+fn any_bad_point(ps: &[f64]) -> bool
+    ensures { λ r. ⌜ r ≡ anyBadPoint (now (ps .entry)) ⌝ }
 {
-    let n = points.len() / 2;
+    let n = ps.len() / 2;
     let mut found = false;
     let mut i = 0;
     while i < n {
-        found = found | !point_in_field(vertex_at(points, i));
+        found = found | !point_in_field(vertex_at(ps, i));
         i += 1;
     }
     found
@@ -44,28 +44,28 @@ fn any_bad_point(points: &[f64]) -> bool
 fn tested(
     v: &[f64],
     counts: &[u32],
-    points: &[f64],
+    ps: &[f64],
     corners: &[f64],
     links: &[u32],
     items: &[u32],
-    outlines: &[u32],
+    near: &[u32],
     distances: &[f64],
 ) -> Test
-    ensures { λ r. ⌜ r ≡ manyTested (now (v .entry)) (now (counts .entry)) (now (points .entry))
-        (manyLent (now (corners .entry)) (now (links .entry)) (now (items .entry)) (now (outlines .entry)) (now (distances .entry))) ⌝ }
+    ensures { λ r. ⌜ r ≡ manyTested (now (v .entry)) (now (counts .entry)) (now (ps .entry))
+        (manyLent (now (corners .entry)) (now (links .entry)) (now (items .entry)) (now (near .entry)) (now (distances .entry))) ⌝ }
 {
     let t = refusing(
         set_tested(v, counts),
         Refusal::BadPointCount,
-        bad_point_count(points),
+        bad_point_count(ps),
     );
-    let t = refusing(t, Refusal::BadPoint, any_bad_point(points));
+    let t = refusing(t, Refusal::BadPoint, any_bad_point(ps));
     let short = short_index(corners.len(), links.len(), items.len());
     let t = refusing(t, Refusal::ShortBuffer, short);
     refusing(
         t,
         Refusal::ShortBuffer,
-        (outlines.len() < 256) | (distances.len() < 256),
+        (near.len() < 256) | (distances.len() < 256),
     )
 }
 
@@ -76,24 +76,24 @@ fn put_answers_in(
     counts: &[u32],
     starts: &[u32],
     boxes: &[f64],
-    points: &[f64],
+    ps: &[f64],
     corners: &[f64],
     links: &[u32],
     items: &[u32],
     nodes: &mut [u32],
     gaps: &mut [f64],
-    outlines: &mut [u32],
+    near: &mut [u32],
     distances: &mut [f64],
 )
-    requires { ⌜ AllAsked (now v) (now counts) (now starts) (now boxes) (now points) × Searched (outlinesOf (now v) (now counts)) (buffer (now corners) (now links) (now items))
-        × (length (now nodes) ≡ 512) × (length (now gaps) ≡ 512) × (count (now points) ≤ length (now outlines)) × (count (now points) ≤ length (now distances)) ⌝ }
-    ensures { λ _. ⌜ answerLists (now (outlines .exit)) (now (distances .exit))
-        ≡ withAnswers (answersOf (outlinesOf (now (v .entry)) (now (counts .entry))) (now (points .entry))) (answerLists (now (outlines .entry)) (now (distances .entry))) ⌝ }
+    requires { ⌜ AllAsked (now v) (now counts) (now starts) (now boxes) (now ps) × Searched (outlinesOf (now v) (now counts)) (buffer (now corners) (now links) (now items))
+        × HeapSpace (now nodes) (now gaps) × RoomFor (now ps) (answerLists (now near) (now distances)) ⌝ }
+    ensures { λ _. ⌜ answerLists (now (near .exit)) (now (distances .exit))
+        ≡ withAnswers (answersOf (outlinesOf (now (v .entry)) (now (counts .entry))) (now (ps .entry))) (answerLists (now (near .entry)) (now (distances .entry))) ⌝ }
 {
-    let n = points.len() / 2;
+    let n = ps.len() / 2;
     let mut i = 0;
     while i < n {
-        let p = vertex_at(points, i);
+        let p = vertex_at(ps, i);
         let best = search::search_in(
             v,
             counts,
@@ -106,7 +106,7 @@ fn put_answers_in(
             nodes,
             gaps,
         );
-        lists::put(outlines, i, best.outline);
+        lists::put(near, i, best.outline);
         lists::put_number(distances, i, best.distance);
         i += 1;
     }
@@ -118,17 +118,17 @@ fn put_answers(
     counts: &[u32],
     starts: &[u32],
     boxes: &[f64],
-    points: &[f64],
+    ps: &[f64],
     corners: &[f64],
     links: &[u32],
     items: &[u32],
-    outlines: &mut [u32],
+    near: &mut [u32],
     distances: &mut [f64],
 )
-    requires { ⌜ AllAsked (now v) (now counts) (now starts) (now boxes) (now points) × Searched (outlinesOf (now v) (now counts)) (buffer (now corners) (now links) (now items))
-        × (count (now points) ≤ length (now outlines)) × (count (now points) ≤ length (now distances)) ⌝ }
-    ensures { λ _. ⌜ answerLists (now (outlines .exit)) (now (distances .exit))
-        ≡ withAnswers (answersOf (outlinesOf (now (v .entry)) (now (counts .entry))) (now (points .entry))) (answerLists (now (outlines .entry)) (now (distances .entry))) ⌝ }
+    requires { ⌜ AllAsked (now v) (now counts) (now starts) (now boxes) (now ps) × Searched (outlinesOf (now v) (now counts)) (buffer (now corners) (now links) (now items))
+        × RoomFor (now ps) (answerLists (now near) (now distances)) ⌝ }
+    ensures { λ _. ⌜ answerLists (now (near .exit)) (now (distances .exit))
+        ≡ withAnswers (answersOf (outlinesOf (now (v .entry)) (now (counts .entry))) (now (ps .entry))) (answerLists (now (near .entry)) (now (distances .entry))) ⌝ }
 {
     let mut nodes = [0; 512];
     let mut gaps = [0.0; 512];
@@ -137,13 +137,13 @@ fn put_answers(
         counts,
         starts,
         boxes,
-        points,
+        ps,
         corners,
         links,
         items,
         &mut nodes,
         &mut gaps,
-        outlines,
+        near,
         distances,
     );
 }
@@ -153,20 +153,20 @@ fn put_answers(
 fn answer_in(
     v: &[f64],
     counts: &[u32],
-    points: &[f64],
+    ps: &[f64],
     starts: &mut [u32],
     boxes: &mut [f64],
     corners: &mut [f64],
     links: &mut [u32],
     items: &mut [u32],
-    outlines: &mut [u32],
+    near: &mut [u32],
     distances: &mut [f64],
 )
-    requires { ⌜ ManyReady (now v) (now counts) (now points) (manyLent (now corners) (now links) (now items) (now outlines) (now distances))
-        × (0 < length (now counts)) × (length (now counts) ≤ length (now starts)) × (4 * length (now counts) ≤ length (now boxes)) ⌝ }
-    ensures { λ _. ⌜ manyLent (now (corners .exit)) (now (links .exit)) (now (items .exit)) (now (outlines .exit)) (now (distances .exit))
-        ≡ leaving (answersOf (outlinesOf (now (v .entry)) (now (counts .entry))) (now (points .entry)))
-        (manyLent (now (corners .entry)) (now (links .entry)) (now (items .entry)) (now (outlines .entry)) (now (distances .entry))) ⌝ }
+    requires { ⌜ ManyReady (now v) (now counts) (now ps) (manyLent (now corners) (now links) (now items) (now near) (now distances))
+        × (0 < length (now counts)) × SetSpace (now counts) (now starts) (now boxes) ⌝ }
+    ensures { λ _. ⌜ manyLent (now (corners .exit)) (now (links .exit)) (now (items .exit)) (now (near .exit)) (now (distances .exit))
+        ≡ manyLeft (now (v .entry)) (now (counts .entry)) (now (ps .entry))
+        (manyLent (now (corners .entry)) (now (links .entry)) (now (items .entry)) (now (near .entry)) (now (distances .entry))) ⌝ }
 {
     search::all_held(v);
     put_starts(counts, starts);
@@ -176,96 +176,69 @@ fn answer_in(
         counts,
         starts,
         boxes,
-        points,
+        ps,
         corners,
         links,
         items,
-        outlines,
+        near,
         distances,
     );
     building::clear(corners, links, items);
 }
 
-// The same, with its own space for the starts and the boxes: that of 32 outlines, where it is enough, since it
-// is filled with zeros first.
+// The same, with its own space for the starts and the boxes.
 fn answer(
     v: &[f64],
     counts: &[u32],
-    points: &[f64],
+    ps: &[f64],
     corners: &mut [f64],
     links: &mut [u32],
     items: &mut [u32],
-    outlines: &mut [u32],
+    near: &mut [u32],
     distances: &mut [f64],
 )
-    requires { ⌜ ManyReady (now v) (now counts) (now points) (manyLent (now corners) (now links) (now items) (now outlines) (now distances)) × (0 < length (now counts)) ⌝ }
-    ensures { λ _. ⌜ manyLent (now (corners .exit)) (now (links .exit)) (now (items .exit)) (now (outlines .exit)) (now (distances .exit))
-        ≡ leaving (answersOf (outlinesOf (now (v .entry)) (now (counts .entry))) (now (points .entry)))
-        (manyLent (now (corners .entry)) (now (links .entry)) (now (items .entry)) (now (outlines .entry)) (now (distances .entry))) ⌝ }
+    requires { ⌜ ManyReady (now v) (now counts) (now ps) (manyLent (now corners) (now links) (now items) (now near) (now distances)) × (0 < length (now counts)) ⌝ }
+    ensures { λ _. ⌜ manyLent (now (corners .exit)) (now (links .exit)) (now (items .exit)) (now (near .exit)) (now (distances .exit))
+        ≡ manyLeft (now (v .entry)) (now (counts .entry)) (now (ps .entry))
+        (manyLent (now (corners .entry)) (now (links .entry)) (now (items .entry)) (now (near .entry)) (now (distances .entry))) ⌝ }
 {
-    if counts.len() <= 32 {
-        let mut starts = [0; 32];
-        let mut boxes = [0.0; 128];
-        answer_in(
-            v,
-            counts,
-            points,
-            &mut starts,
-            &mut boxes,
-            corners,
-            links,
-            items,
-            outlines,
-            distances,
-        );
-    } else {
-        let mut starts = [0; 1024];
-        let mut boxes = [0.0; 4096];
-        answer_in(
-            v,
-            counts,
-            points,
-            &mut starts,
-            &mut boxes,
-            corners,
-            links,
-            items,
-            outlines,
-            distances,
-        );
-    }
+    let mut starts = [0; 1024];
+    let mut boxes = [0.0; 4096];
+    answer_in(
+        v,
+        counts,
+        ps,
+        &mut starts,
+        &mut boxes,
+        corners,
+        links,
+        items,
+        near,
+        distances,
+    );
 }
 
 // The answers over a set that passed the tests: 1 where it has an outline, and 0, 'none', where it is empty.
 fn answered(
     v: &[f64],
     counts: &[u32],
-    points: &[f64],
+    ps: &[f64],
     corners: &mut [f64],
     links: &mut [u32],
     items: &mut [u32],
-    outlines: &mut [u32],
+    near: &mut [u32],
     distances: &mut [f64],
 ) -> Answer
-    requires { ⌜ ManyReady (now v) (now counts) (now points) (manyLent (now corners) (now links) (now items) (now outlines) (now distances)) ⌝ }
-    ensures { λ r. ⌜ record { answer = r; lent = manyLent (now (corners .exit)) (now (links .exit)) (now (items .exit)) (now (outlines .exit)) (now (distances .exit)) }
-        ≡ manyWorked (outlinesOf (now (v .entry)) (now (counts .entry))) (now (points .entry))
-        (manyLent (now (corners .entry)) (now (links .entry)) (now (items .entry)) (now (outlines .entry)) (now (distances .entry))) ⌝ }
+    requires { ⌜ ManyReady (now v) (now counts) (now ps) (manyLent (now corners) (now links) (now items) (now near) (now distances)) ⌝ }
+    ensures { λ r. ⌜ record { answer = r; lent = manyLent (now (corners .exit)) (now (links .exit)) (now (items .exit)) (now (near .exit)) (now (distances .exit)) }
+        ≡ manyWorked (now (v .entry)) (now (counts .entry)) (now (ps .entry))
+        (manyLent (now (corners .entry)) (now (links .entry)) (now (items .entry)) (now (near .entry)) (now (distances .entry))) ⌝ }
 {
     if counts.len() == 0 {
         building::clear(corners, links, items);
         return Answer::Count(0);
     }
-    answer(
-        v,
-        counts,
-        points,
-        corners,
-        links,
-        items,
-        outlines,
-        distances,
-    );
+    answer(v, counts, ps, corners, links, items, near, distances);
     Answer::Count(1)
 }
 
@@ -274,38 +247,20 @@ fn answered(
 pub fn nearest_many(
     v: &[f64],
     counts: &[u32],
-    points: &[f64],
+    ps: &[f64],
     corners: &mut [f64],
     links: &mut [u32],
     items: &mut [u32],
-    outlines: &mut [u32],
+    near: &mut [u32],
     distances: &mut [f64],
 ) -> Answer
-    ensures { λ r. ⌜ record { answer = r; lent = manyLent (now (corners .exit)) (now (links .exit)) (now (items .exit)) (now (outlines .exit)) (now (distances .exit)) }
-        ≡ manyOutcome (now (v .entry)) (now (counts .entry)) (now (points .entry))
-        (manyLent (now (corners .entry)) (now (links .entry)) (now (items .entry)) (now (outlines .entry)) (now (distances .entry))) ⌝ }
+    ensures { λ r. ⌜ record { answer = r; lent = manyLent (now (corners .exit)) (now (links .exit)) (now (items .exit)) (now (near .exit)) (now (distances .exit)) }
+        ≡ manyOutcome (now (v .entry)) (now (counts .entry)) (now (ps .entry))
+        (manyLent (now (corners .entry)) (now (links .entry)) (now (items .entry)) (now (near .entry)) (now (distances .entry))) ⌝ }
 {
-    let t = tested(
-        v,
-        counts,
-        points,
-        corners,
-        links,
-        items,
-        outlines,
-        distances,
-    );
+    let t = tested(v, counts, ps, corners, links, items, near, distances);
     match t {
-        Test::Passed => answered(
-            v,
-            counts,
-            points,
-            corners,
-            links,
-            items,
-            outlines,
-            distances,
-        ),
+        Test::Passed => answered(v, counts, ps, corners, links, items, near, distances),
         Test::Failed(r) => Answer::Refused(r),
     }
 }

@@ -3,12 +3,12 @@ pub mod answers;
 
 ghost use mathlib.Core.Path.{_≡_};
 ghost use mathlib.Core.Bool.{true};
-ghost use Prim.Native.Nat.{_*_, _≤_, _<_};
+ghost use Prim.Native.Nat.{_<_};
 ghost use lib.ListN.{length};
 ghost use Rattle.boundary.specs.Boxes.{pointInField};
 ghost use Rattle.index.specs.Buffer.{buffer};
 ghost use Rattle.set.specs.Set.{outlinesOf};
-ghost use Rattle.set.specs.Answers.{worked, Ready};
+ghost use Rattle.set.specs.Answers.{worked, Ready, SetSpace};
 ghost use Rattle.search.specs.Least.{leastIn};
 ghost use Rattle.nearest.specs.Nearest.{nearestIn};
 ghost use Rattle.nearest.specs.Answers.{nearestOutcome};
@@ -49,7 +49,7 @@ fn found_in(
     items: &mut [u32],
 ) -> Best
     requires { ⌜ Ready (now v) (now counts) (buffer (now corners) (now links) (now items)) × (pointInField p ≡ true)
-        × (0 < length (now counts)) × (length (now counts) ≤ length (now starts)) × (4 * length (now counts) ≤ length (now boxes)) ⌝ }
+        × (0 < length (now counts)) × SetSpace (now counts) (now starts) (now boxes) ⌝ }
     ensures { λ r. ⌜ record { answer = r; lent = buffer (now (corners .exit)) (now (links .exit)) (now (items .exit)) }
         ≡ worked (leastIn (outlinesOf (now (v .entry)) (now (counts .entry))) p) (buffer (now (corners .entry)) (now (links .entry)) (now (items .entry))) ⌝ }
 {

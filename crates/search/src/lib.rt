@@ -18,7 +18,7 @@ ghost use Rattle.number.specs.Exact.{Doubles};
 ghost use Rattle.set.specs.Set.{outlinesOf};
 ghost use Rattle.set.specs.Answers.{Boxed};
 ghost use Rattle.search.specs.Least.{magnitudeAt, leastIn};
-ghost use Rattle.search.specs.Walk.{improved, keptWith, noneKept, Clear, bestOf, Asked, Searched, Opened, entryFor, diagonalOf};
+ghost use Rattle.search.specs.Walk.{improved, keptWith, noneKept, Clear, bestOf, Asked, Searched, Opened, entryFor, diagonalOf, HeapSpace};
 use boundary::Edge;
 use boundary::Point;
 use boundary::out_along;
@@ -192,7 +192,7 @@ pub fn search_in(
     gaps: &mut [f64],
 ) -> Best
     requires { ⌜ Asked (now v) (now counts) (now starts) p × Boxed (outlinesOf (now v) (now counts)) (now boxes)
-        × Searched (outlinesOf (now v) (now counts)) (buffer (now corners) (now links) (now items)) × (0 < length (now counts)) × (length (now nodes) ≡ 512) × (length (now gaps) ≡ 512) ⌝ }
+        × Searched (outlinesOf (now v) (now counts)) (buffer (now corners) (now links) (now items)) × (0 < length (now counts)) × HeapSpace (now nodes) (now gaps) ⌝ }
     ensures { λ r. ⌜ r ≡ leastIn (outlinesOf (now (v .entry)) (now (counts .entry))) p ⌝ }
 {
     heap::push(nodes, gaps, 0, 0, gap(corners, 0, p));

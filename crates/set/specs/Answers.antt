@@ -1,7 +1,7 @@
 -- What the work of a query over a set needs, and what the query leaves. Definitions only.
 use mathlib.Core.Path.{_≡_}
 use mathlib.Core.List.{List}
-use Prim.Native.Nat.{ℕ, _≤_, _<_}
+use Prim.Native.Nat.{ℕ, _*_, _≤_, _<_}
 use lib.ListN.{length, getD}
 use lib.Ieee.{Float}
 use Rattle.boundary.specs.declared.Point.{Point}
@@ -35,6 +35,11 @@ pub record Ready (v : List Float) (cs : List ℕ) (B : IndexBuffer) : Type 0 whe
 -- S holds how many vertices stand before each outline
 pub record Starts (cs S : List ℕ) : Type 0 where
   pub each : (k : ℕ) → k < length cs → getD S k 0 ≡ startOf cs k
+
+-- lists that are long enough for them, and for the outlines' boxes
+pub record SetSpace (cs S : List ℕ) (X : List Float) : Type 0 where
+  pub starts : length cs ≤ length S
+  pub boxes : 4 * length cs ≤ length X
 
 -- X holds the box of each outline
 pub record Boxed (os : List Outline) (X : List Float) : Type 0 where

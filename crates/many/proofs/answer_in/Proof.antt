@@ -6,7 +6,7 @@ use Rattle.set.proofs.SetLaws.{fit-within, doubles-outlines}
 use Rattle.set.proofs.AskLaws.{starts-put}
 use Rattle.set.proofs.FrameLaws.{set-indexed, set-cleared}
 use Rattle.nearest.proofs.FoundLaws.{indexed-searched}
-use Rattle.many.specs.Answers.{AnswerLists, AllAsked}
+use Rattle.many.specs.Answers.{AnswerLists, manyLeft, AllAsked}
 use Rattle.many.proofs.ManyLaws.{point-fits}
 use borrow.Author.Needs.{needs}
 use Rattle.many.proofs.answer_in.Statement.{statement}
@@ -32,19 +32,19 @@ put-answers-requires c κs =
     let v = a .v .now in
     let cs = a .counts .now in
     let B = buffer (a .corners .now) (a .links .now) (a .items .now) in
-    let starts = starts-put cs (a .starts .now) _ (s .pre .2) (t .put-starts .ensures) in
+    let starts = starts-put cs (a .starts .now) _ (s .pre .2 .starts) (t .put-starts .ensures) in
     let held = h .all-held .ensures in
     let tree = indexed-searched v cs _ (r .ready .fit) (r .ready .fitting) held (s .pre .1) (set-indexed v cs B (r .ready) _ (g .index-in .ensures .0)) in
-    let asked : AllAsked v cs _ _ (a .points .now) = record {
+    let asked : AllAsked v cs _ _ (a .ps .now) = record {
       some = s .pre .1;
       few = r .few;
       boxed = g .index-in .ensures .1;
-      each = λ i l. record { within = fit-within v cs (r .ready .fit); starts = starts; fitting = r .ready .fitting; held = doubles-outlines v cs (r .ready .fit) held; point = point-fits (a .points .now) (r .points) i l };
+      each = λ i l. record { within = fit-within v cs (r .ready .fit); starts = starts; fitting = r .ready .fitting; held = doubles-outlines v cs (r .ready .fit) held; point = point-fits (a .ps .now) (r .points) i l };
     } in
     let n = r .few in
     let o = r .outlines in
     let d = r .distances in
-    (asked, tree, omega arith, omega arith)
+    (asked, tree, (omega arith, omega arith))
 
 clear-requires : tie.Need-clear-requires
 clear-requires c κs =
@@ -82,6 +82,7 @@ same-length-7 : tie.Need-same-length-7
 same-length-7 c = search needs
 
 returns : tie.Need-returns
+unfolding manyLeft
 returns c =
     let z = c .before .before .before .before .before .before in
     let w = z .before .before .before .before .before .before .before .before in

@@ -5,7 +5,7 @@ use Rattle.lists.specs.Lists.{atFront}
 use Rattle.accept.specs.declared.Answer.the-variants.{Count}
 use Rattle.index.specs.Buffer.{IndexBuffer}
 use Rattle.set.proofs.SetLaws.{outlines-length}
-use Rattle.many.specs.Answers.{ManyLent, answerLists, writtenOf, withAnswers, manyWorked}
+use Rattle.many.specs.Answers.{ManyLent, answerLists, manyLeft, writtenOf, withAnswers, manyWorked}
 use borrow.Author.Needs.{needs}
 use Rattle.many.proofs.answered.Statement.{statement}
 use Rattle.many.proofs.answered.Tie as tie
@@ -29,7 +29,7 @@ returns c =
     let i = k .before .before .before .before in
     let a = i .before .before .before .before .before .before .before .before .before .args in
     let n = outlines-length (a .v .now) (a .counts .now) in
-    rw (eq-eqb _ 0 (n ∙ i .if1 .taken)) (ap (λ (B : IndexBuffer). record { answer = Count 0; lent = record { buffer = B; lists = answerLists (a .outlines .now) (a .distances .now) } }) (k .clear .ensures))
+    rw (eq-eqb _ 0 (n ∙ i .if1 .taken)) (ap (λ (B : IndexBuffer). record { answer = Count 0; lent = record { buffer = B; lists = answerLists (a .near .now) (a .distances .now) } }) (k .clear .ensures))
 
 answer-requires : tie.Need-answer-requires
 answer-requires c κs = search needs
@@ -50,7 +50,7 @@ same-length-8 : tie.Need-same-length-8
 same-length-8 c = search needs
 
 returns-2 : tie.Need-returns-2
-unfolding manyWorked writtenOf
+unfolding manyWorked manyLeft writtenOf
 returns-2 c =
     let k = c .before .before .before .before .before .before .before .before .before .before in
     let i = k .before .before .before .before .before .before in

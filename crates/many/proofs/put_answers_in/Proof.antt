@@ -37,7 +37,7 @@ search-in-requires c κs =
     let l = c .before .before .before .before in
     let s = l .before .before .before .before .before .before .before .before .before .before .before .before .before in
     let A = s .pre .0 in
-    (rw (c .before .before .vertex-at .ensures) (A .each (l .loop .i) (search needs)), A .boxed, s .pre .1, A .some, search needs, search needs)
+    (rw (c .before .before .vertex-at .ensures) (A .each (l .loop .i) (search needs)), A .boxed, s .pre .1, A .some, record { nodes = search needs; gaps = search needs })
 
 put-requires : tie.Need-put-requires Inv-loop μ-loop
 put-requires c κs = search needs
@@ -65,11 +65,11 @@ loop-again c =
     let n = outlines-length (a .v .now) (a .counts .now) in
     let m = s .pre .0 .some in
     let t = v .before .loop-test .taken in
-    let e = sym (answer-best os (vertexAt (a .points .now) (l .loop .i)) (omega arith)) in
+    let e = sym (answer-best os (vertexAt (a .ps .now) (l .loop .i)) (omega arith)) in
     let f = rw (v .vertex-at .ensures) at (c .before .before .before .before .before .before .before .before .before .before .before .before .search-in .ensures) in (
       omega arith,
-      sets-more _ _ _ (λ k. answerAt os (a .points .now) k .outline) _ _ (l .loop .inv .1) (ap (λ (x : Best). x .outline) f ∙ ap (λ (x : NearestFields). x .outline) e) (c .before .before .before .before .before .before .put .ensures),
-      sets-more _ _ _ (λ k. answerAt os (a .points .now) k .distance) _ _ (l .loop .inv .2) (ap (λ (x : Best). x .distance) f ∙ ap (λ (x : NearestFields). x .distance) e) (c .before .before .put-number .ensures),
+      sets-more _ _ _ (λ k. answerAt os (a .ps .now) k .outline) _ _ (l .loop .inv .1) (ap (λ (x : Best). x .outline) f ∙ ap (λ (x : NearestFields). x .outline) e) (c .before .before .before .before .before .before .put .ensures),
+      sets-more _ _ _ (λ k. answerAt os (a .ps .now) k .distance) _ _ (l .loop .inv .2) (ap (λ (x : Best). x .distance) f ∙ ap (λ (x : NearestFields). x .distance) e) (c .before .before .put-number .ensures),
       c .before .before .before .before .before .before .before .before .before .before .before .nodes .given ∙ l .loop .inv .3,
       c .before .before .before .before .before .before .before .before .before .gaps .given ∙ l .loop .inv .4,
     )
@@ -93,7 +93,7 @@ returns c =
     let a = s .args in
     let inv = l .loop .inv in
     let z = le-antisymm (inv .0) (c .loop-test .left) in
-    rw (inv .1, inv .2, z) (lists-written (outlinesOf (a .v .now) (a .counts .now)) (a .points .now) (a .outlines .now) (a .distances .now) (s .pre .4) (s .pre .5))
+    rw (inv .1, inv .2, z) (lists-written (outlinesOf (a .v .now) (a .counts .now)) (a .ps .now) (a .near .now) (a .distances .now) (s .pre .3 .0) (s .pre .3 .1))
 
 pub put-answers-in-spec : {M : Type 1} → statement M
 put-answers-in-spec =

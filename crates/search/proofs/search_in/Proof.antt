@@ -75,7 +75,7 @@ pop-requires c κs =
 same-length : tie.Need-same-length Inv-loop μ-loop
 same-length c =
     let l = c .before .before .before .before .before .before .before .before .before .before .before .before in
-    let m = l .before .before .before .before .before .before .before .before .before .before .before .before .before .before .before .before .before .before .before .pre .4 in
+    let m = l .before .before .before .before .before .before .before .before .before .before .before .before .before .before .before .before .before .before .before .pre .4 .nodes in
     let e = l .loop .inv .1 in
     let k = c .before .before .before .before .before .before .before .nodes2 .given in
     search needs
@@ -83,7 +83,7 @@ same-length c =
 same-length-2 : tie.Need-same-length-2 Inv-loop μ-loop
 same-length-2 c =
     let l = c .before .before .before .before .before .before .before .before .before .before .before .before in
-    let m = l .before .before .before .before .before .before .before .before .before .before .before .before .before .before .before .before .before .before .before .pre .5 in
+    let m = l .before .before .before .before .before .before .before .before .before .before .before .before .before .before .before .before .before .before .before .pre .4 .gaps in
     let e = l .loop .inv .2 in
     let k = c .before .before .before .before .before .gaps2 .given in
     search needs
