@@ -4,3 +4,5 @@
 pub mod Demand
 -- Where a set is on the grid, its outlines are.
 pub mod OutlineLaws
+-- The same at each point of a call for many points: `many-least`.
+pub mod ManyPoints
