@@ -163,7 +163,7 @@ fn answer_in(
     distances: &mut [f64],
 )
     requires { ⌜ ManyReady (now v) (now counts) (now ps) (manyLent (now corners) (now links) (now items) (now near) (now distances))
-        × (0 < length (now counts)) × SetSpace (now counts) (now starts) (now boxes) ⌝ }
+        × SetSpace (now counts) (now starts) (now boxes) ⌝ }
     ensures { λ _. ⌜ manyLent (now (corners .exit)) (now (links .exit)) (now (items .exit)) (now (near .exit)) (now (distances .exit))
         ≡ manyLeft (now (v .entry)) (now (counts .entry)) (now (ps .entry))
         (manyLent (now (corners .entry)) (now (links .entry)) (now (items .entry)) (now (near .entry)) (now (distances .entry))) ⌝ }

@@ -49,7 +49,7 @@ fn found_in(
     items: &mut [u32],
 ) -> Best
     requires { ⌜ Ready (now v) (now counts) (buffer (now corners) (now links) (now items)) × (pointInField p ≡ true)
-        × (0 < length (now counts)) × SetSpace (now counts) (now starts) (now boxes) ⌝ }
+        × SetSpace (now counts) (now starts) (now boxes) ⌝ }
     ensures { λ r. ⌜ record { answer = r; lent = buffer (now (corners .exit)) (now (links .exit)) (now (items .exit)) }
         ≡ worked (leastIn (outlinesOf (now (v .entry)) (now (counts .entry))) p) (buffer (now (corners .entry)) (now (links .entry)) (now (items .entry))) ⌝ }
 {

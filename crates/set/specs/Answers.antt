@@ -36,8 +36,9 @@ pub record Ready (v : List Float) (cs : List ℕ) (B : IndexBuffer) : Type 0 whe
 pub record Starts (cs S : List ℕ) : Type 0 where
   pub each : (k : ℕ) → k < length cs → getD S k 0 ≡ startOf cs k
 
--- lists that are long enough for them, and for the outlines' boxes
+-- of a set that has an outline, lists that are long enough for them, and for the outlines' boxes
 pub record SetSpace (cs S : List ℕ) (X : List Float) : Type 0 where
+  pub some : 0 < length cs
   pub starts : length cs ≤ length S
   pub boxes : 4 * length cs ≤ length X
 

@@ -14,7 +14,7 @@ answer-in-requires : tie.Need-answer-in-requires
 answer-in-requires c κs =
     let s = c .before .before .before .before .before .before .before .before .before .before .before .before .before .before .before in
     let n = s .pre .0 .ready .fit .size in
-    (s .pre .0, s .pre .1, record { starts = n; boxes = omega arith })
+    (s .pre .0, record { some = s .pre .1; starts = n; boxes = omega arith })
 
 same-length : tie.Need-same-length
 same-length c = search needs

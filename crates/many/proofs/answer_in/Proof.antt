@@ -32,11 +32,11 @@ put-answers-requires c κs =
     let v = a .v .now in
     let cs = a .counts .now in
     let B = buffer (a .corners .now) (a .links .now) (a .items .now) in
-    let starts = starts-put cs (a .starts .now) _ (s .pre .2 .starts) (t .put-starts .ensures) in
+    let starts = starts-put cs (a .starts .now) _ (s .pre .1 .starts) (t .put-starts .ensures) in
     let held = h .all-held .ensures in
-    let tree = indexed-searched v cs _ (r .ready .fit) (r .ready .fitting) held (s .pre .1) (set-indexed v cs B (r .ready) _ (g .index-in .ensures .0)) in
+    let tree = indexed-searched v cs _ (r .ready .fit) (r .ready .fitting) held (s .pre .1 .some) (set-indexed v cs B (r .ready) _ (g .index-in .ensures .0)) in
     let asked : AllAsked v cs _ _ (a .ps .now) = record {
-      some = s .pre .1;
+      some = s .pre .1 .some;
       few = r .few;
       boxed = g .index-in .ensures .1;
       each = λ i l. record { within = fit-within v cs (r .ready .fit); starts = starts; fitting = r .ready .fitting; held = doubles-outlines v cs (r .ready .fit) held; point = point-fits (a .ps .now) (r .points) i l };

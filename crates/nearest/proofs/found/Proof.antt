@@ -35,7 +35,7 @@ found-in-requires-2 : tie.Need-found-in-requires-2
 found-in-requires-2 c κs =
     let s = c .before .before .before .before .before .before .before .before .before .before .before in
     let n = s .pre .0 .fit .size in
-    (s .pre .0, s .pre .1, s .pre .2, record { starts = n; boxes = omega arith })
+    (s .pre .0, s .pre .1, record { some = s .pre .2; starts = n; boxes = omega arith })
 
 same-length-4 : tie.Need-same-length-4
 same-length-4 c = search needs

@@ -32,11 +32,11 @@ search-requires c κs =
     let v = a .v .now in
     let cs = a .counts .now in
     let B = buffer (a .corners .now) (a .links .now) (a .items .now) in
-    let starts = starts-put cs (a .starts .now) _ (s .pre .3 .starts) (t .put-starts .ensures) in
+    let starts = starts-put cs (a .starts .now) _ (s .pre .2 .starts) (t .put-starts .ensures) in
     let held = h .all-held .ensures in
-    let tree = indexed-searched v cs _ (r .fit) (r .fitting) held (s .pre .2) (set-indexed v cs B r _ (g .index-in .ensures .0)) in
+    let tree = indexed-searched v cs _ (r .fit) (r .fitting) held (s .pre .2 .some) (set-indexed v cs B r _ (g .index-in .ensures .0)) in
     let asked : Asked v cs _ (a .p) = record { within = fit-within v cs (r .fit); starts = starts; fitting = r .fitting; held = doubles-outlines v cs (r .fit) held; point = s .pre .1 } in
-    (asked, g .index-in .ensures .1, tree, s .pre .2)
+    (asked, g .index-in .ensures .1, tree, s .pre .2 .some)
 
 clear-requires : tie.Need-clear-requires
 clear-requires c κs =
