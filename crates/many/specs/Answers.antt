@@ -38,8 +38,8 @@ pub record ManyLent : Type 0 where
 abbrev pub answerLists : List ℕ → List Float → AnswerLists
 answerLists outlines distances = record { outlines = outlines; distances = distances }
 
-abbrev pub manyLent : List Float → List ℕ → List ℕ → List ℕ → List Float → ManyLent
-manyLent corners links items outlines distances = record { buffer = buffer corners links items; lists = answerLists outlines distances }
+abbrev pub lentAs : List Float → List ℕ → List ℕ → List ℕ → List Float → ManyLent
+lentAs corners links items outlines distances = record { buffer = buffer corners links items; lists = answerLists outlines distances }
 
 abbrev pub pointPlaces : ℕ
 pointPlaces = 256

@@ -6,7 +6,7 @@ ghost use Rattle.index.specs.Buffer.{buffer};
 ghost use Rattle.set.specs.Set.{outlinesOf};
 ghost use Rattle.set.specs.Answers.{SetSpace};
 ghost use Rattle.search.specs.Walk.{Searched, HeapSpace};
-ghost use Rattle.many.specs.Answers.{answerLists, manyLent, badPointCount, anyBadPoint, manyTested, answersOf, withAnswers, manyLeft, manyWorked, manyOutcome, ManyReady, RoomFor, AllAsked};
+ghost use Rattle.many.specs.Answers.{answerLists, lentAs, badPointCount, anyBadPoint, manyTested, answersOf, withAnswers, manyLeft, manyWorked, manyOutcome, ManyReady, RoomFor, AllAsked};
 use accept::Answer;
 use accept::Refusal;
 use accept::Test;
@@ -52,7 +52,7 @@ fn tested(
     distances: &[f64],
 ) -> Test
     ensures { λ r. ⌜ r ≡ manyTested (now (v .entry)) (now (counts .entry)) (now (ps .entry))
-        (manyLent (now (corners .entry)) (now (links .entry)) (now (items .entry)) (now (near .entry)) (now (distances .entry))) ⌝ }
+        (lentAs (now (corners .entry)) (now (links .entry)) (now (items .entry)) (now (near .entry)) (now (distances .entry))) ⌝ }
 {
     let t = refusing(
         set_tested(v, counts),
@@ -162,11 +162,10 @@ fn answer_in(
     near: &mut [u32],
     distances: &mut [f64],
 )
-    requires { ⌜ ManyReady (now v) (now counts) (now ps) (manyLent (now corners) (now links) (now items) (now near) (now distances))
-        × SetSpace (now counts) (now starts) (now boxes) ⌝ }
-    ensures { λ _. ⌜ manyLent (now (corners .exit)) (now (links .exit)) (now (items .exit)) (now (near .exit)) (now (distances .exit))
+    requires { ⌜ ManyReady (now v) (now counts) (now ps) (lentAs (now corners) (now links) (now items) (now near) (now distances)) × SetSpace (now counts) (now starts) (now boxes) ⌝ }
+    ensures { λ _. ⌜ lentAs (now (corners .exit)) (now (links .exit)) (now (items .exit)) (now (near .exit)) (now (distances .exit))
         ≡ manyLeft (now (v .entry)) (now (counts .entry)) (now (ps .entry))
-        (manyLent (now (corners .entry)) (now (links .entry)) (now (items .entry)) (now (near .entry)) (now (distances .entry))) ⌝ }
+        (lentAs (now (corners .entry)) (now (links .entry)) (now (items .entry)) (now (near .entry)) (now (distances .entry))) ⌝ }
 {
     search::all_held(v);
     put_starts(counts, starts);
@@ -197,10 +196,10 @@ fn answer(
     near: &mut [u32],
     distances: &mut [f64],
 )
-    requires { ⌜ ManyReady (now v) (now counts) (now ps) (manyLent (now corners) (now links) (now items) (now near) (now distances)) × (0 < length (now counts)) ⌝ }
-    ensures { λ _. ⌜ manyLent (now (corners .exit)) (now (links .exit)) (now (items .exit)) (now (near .exit)) (now (distances .exit))
+    requires { ⌜ ManyReady (now v) (now counts) (now ps) (lentAs (now corners) (now links) (now items) (now near) (now distances)) × (0 < length (now counts)) ⌝ }
+    ensures { λ _. ⌜ lentAs (now (corners .exit)) (now (links .exit)) (now (items .exit)) (now (near .exit)) (now (distances .exit))
         ≡ manyLeft (now (v .entry)) (now (counts .entry)) (now (ps .entry))
-        (manyLent (now (corners .entry)) (now (links .entry)) (now (items .entry)) (now (near .entry)) (now (distances .entry))) ⌝ }
+        (lentAs (now (corners .entry)) (now (links .entry)) (now (items .entry)) (now (near .entry)) (now (distances .entry))) ⌝ }
 {
     let mut starts = [0; 1024];
     let mut boxes = [0.0; 4096];
@@ -229,10 +228,10 @@ fn answered(
     near: &mut [u32],
     distances: &mut [f64],
 ) -> Answer
-    requires { ⌜ ManyReady (now v) (now counts) (now ps) (manyLent (now corners) (now links) (now items) (now near) (now distances)) ⌝ }
-    ensures { λ r. ⌜ record { answer = r; lent = manyLent (now (corners .exit)) (now (links .exit)) (now (items .exit)) (now (near .exit)) (now (distances .exit)) }
+    requires { ⌜ ManyReady (now v) (now counts) (now ps) (lentAs (now corners) (now links) (now items) (now near) (now distances)) ⌝ }
+    ensures { λ r. ⌜ record { answer = r; lent = lentAs (now (corners .exit)) (now (links .exit)) (now (items .exit)) (now (near .exit)) (now (distances .exit)) }
         ≡ manyWorked (now (v .entry)) (now (counts .entry)) (now (ps .entry))
-        (manyLent (now (corners .entry)) (now (links .entry)) (now (items .entry)) (now (near .entry)) (now (distances .entry))) ⌝ }
+        (lentAs (now (corners .entry)) (now (links .entry)) (now (items .entry)) (now (near .entry)) (now (distances .entry))) ⌝ }
 {
     if counts.len() == 0 {
         building::clear(corners, links, items);
@@ -254,9 +253,9 @@ pub fn nearest_many(
     near: &mut [u32],
     distances: &mut [f64],
 ) -> Answer
-    ensures { λ r. ⌜ record { answer = r; lent = manyLent (now (corners .exit)) (now (links .exit)) (now (items .exit)) (now (near .exit)) (now (distances .exit)) }
+    ensures { λ r. ⌜ record { answer = r; lent = lentAs (now (corners .exit)) (now (links .exit)) (now (items .exit)) (now (near .exit)) (now (distances .exit)) }
         ≡ manyOutcome (now (v .entry)) (now (counts .entry)) (now (ps .entry))
-        (manyLent (now (corners .entry)) (now (links .entry)) (now (items .entry)) (now (near .entry)) (now (distances .entry))) ⌝ }
+        (lentAs (now (corners .entry)) (now (links .entry)) (now (items .entry)) (now (near .entry)) (now (distances .entry))) ⌝ }
 {
     let t = tested(v, counts, ps, corners, links, items, near, distances);
     match t {

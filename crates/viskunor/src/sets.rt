@@ -4,7 +4,7 @@ ghost use mathlib.Core.Path.{_≡_};
 ghost use Rattle.index.specs.Buffer.{buffer};
 ghost use Rattle.any.specs.Answers.{anyCall};
 ghost use Rattle.nearest.specs.Answers.{nearestCall};
-ghost use Rattle.many.specs.Answers.{manyLent, manyCall};
+ghost use Rattle.many.specs.Answers.{lentAs, manyCall};
 use accept::answers;
 use boundary::Point;
 
@@ -64,8 +64,8 @@ pub extern "C" fn vk_set_nearest_many(
     distances: &mut [f64],
     found: &mut u32,
 ) -> u32
-    ensures { λ r. ⌜ record { answer = record { number = r; count = now (found .exit) }; lent = manyLent (now (corners .exit)) (now (links .exit)) (now (items .exit)) (now (outlines .exit)) (now (distances .exit)) }
-        ≡ manyCall (now (vertices .entry)) (now (counts .entry)) (now (points .entry)) (manyLent (now (corners .entry)) (now (links .entry)) (now (items .entry)) (now (outlines .entry)) (now (distances .entry))) ⌝ }
+    ensures { λ r. ⌜ record { answer = record { number = r; count = now (found .exit) }; lent = lentAs (now (corners .exit)) (now (links .exit)) (now (items .exit)) (now (outlines .exit)) (now (distances .exit)) }
+        ≡ manyCall (now (vertices .entry)) (now (counts .entry)) (now (points .entry)) (lentAs (now (corners .entry)) (now (links .entry)) (now (items .entry)) (now (outlines .entry)) (now (distances .entry))) ⌝ }
 {
     let answer = many::nearest_many(
         vertices,
