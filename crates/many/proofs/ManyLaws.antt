@@ -27,7 +27,8 @@ use Rattle.search.specs.declared.Best.{Best}
 use Rattle.search.specs.Least.{leastIn}
 use Rattle.nearest.specs.declared.NearestFields.{NearestFields}
 use Rattle.nearest.specs.Nearest.{nearestIn, nearestFields}
-use Rattle.many.specs.Answers.{AnswerLists, ManyLent, answerLists, pointPlaces, badPointCount, anyBadPoint, shortLists, manyTested, answersOf, writtenOf, withAnswers, ManyReady}
+use Rattle.many.specs.Answers.{AnswerLists, ManyLent, answerLists, pointPlaces, badPointCount, anyBadPoint, shortLists, manyTested, answersOf, writtenOf, withAnswers}
+use Rattle.many.specs.Work.{ManyReady}
 
 -- ---- what passing the tests tells
 pub record ManyPassed (v : List Float) (cs : List ℕ) (ps : List Float) (L : ManyLent) : Type 0 where

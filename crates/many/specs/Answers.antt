@@ -1,13 +1,12 @@
 -- *Many points per call* (document 02, U1): the tests, and all that the call leaves. Definitions only.
-use mathlib.Core.Path.{_≡_}
-use mathlib.Core.Bool.{Bool, false, not, cond, _||_}
+use mathlib.Core.Bool.{Bool, not, cond, _||_}
 use mathlib.Core.List.{List, [], map}
-use Prim.Native.Nat.{ℕ, _%_, _≤_, _<_}
+use Prim.Native.Nat.{ℕ, _%_}
 use lib.Dec.{eqb, ltb}
 use lib.ListN.{length}
 use lib.Ieee.{Float}
 use Rattle.boundary.specs.Boxes.{pointInField}
-use Rattle.boundary.specs.Outline.{count, vertexAt, vertices}
+use Rattle.boundary.specs.Outline.{count, vertices}
 use Rattle.lists.specs.Lists.{any, atFront}
 use Rattle.accept.specs.declared.Answer.{Answer}
 use Rattle.accept.specs.declared.Answer.the-variants.{Count}
@@ -19,8 +18,6 @@ use Rattle.accept.specs.Refusals.{_refusing_when_, given}
 use Rattle.index.specs.Buffer.{IndexBuffer, buffer, shortBuffer, cleared}
 use Rattle.set.specs.Set.{Outline, outlinesOf}
 use Rattle.set.specs.Tests.{setTested}
-use Rattle.set.specs.Answers.{Ready, Boxed}
-use Rattle.search.specs.Walk.{Asked}
 use Rattle.nearest.specs.declared.NearestFields.{NearestFields}
 use Rattle.nearest.specs.Nearest.{nearestIn, nearestFields}
 
@@ -41,6 +38,7 @@ answerLists outlines distances = record { outlines = outlines; distances = dista
 abbrev pub lentAs : List Float → List ℕ → List ℕ → List ℕ → List Float → ManyLent
 lentAs corners links items outlines distances = record { buffer = buffer corners links items; lists = answerLists outlines distances }
 
+-- the most points of a call, and the places of each list
 abbrev pub pointPlaces : ℕ
 pointPlaces = 256
 
@@ -53,7 +51,7 @@ badPointCount ps = eqb (length ps % 2) 1 || ltb pointPlaces (count ps)
 abbrev pub anyBadPoint : List Float → Bool
 anyBadPoint ps = any (λ p. not (pointInField p)) (vertices ps)
 
--- 13: the index buffer is too short, or one of the two lists
+-- 13, of the two lists: one of them is too short
 abbrev pub shortLists : AnswerLists → Bool
 shortLists L = ltb (length (L .outlines)) pointPlaces || ltb (length (L .distances)) pointPlaces
 
@@ -102,27 +100,3 @@ manyOutcome v cs ps L = given (manyTested v cs ps L) (manyWorked v cs ps L) (ref
 -- the same, with the answer in its fields
 unfoldable pub manyCall : List Float → List ℕ → List Float → ManyLent → Outcome CountFields ManyLent
 manyCall v cs ps L = inFields countFields (manyOutcome v cs ps L)
-
--- ---- what the work asks
--- a set and points that pass the tests, and lists that are long enough
-pub record ManyReady (v : List Float) (cs : List ℕ) (ps : List Float) (L : ManyLent) : Type 0 where
-  pub ready : Ready v cs (L .buffer)
-  pub points : anyBadPoint ps ≡ false
-  pub few : count ps ≤ pointPlaces
-  pub outlines : pointPlaces ≤ length (L .lists .outlines)
-  pub distances : pointPlaces ≤ length (L .lists .distances)
-
--- both lists have a place for each point
-abbrev pub RoomFor : List Float → AnswerLists → Type 0
-RoomFor ps L = (count ps ≤ length (L .outlines)) × (count ps ≤ length (L .distances))
-
--- what it leaves over a set that has an outline
-unfoldable pub manyLeft : List Float → List ℕ → List Float → ManyLent → ManyLent
-manyLeft v cs ps L = leaving (answersOf (outlinesOf v cs) ps) L
-
--- a set that has an outline and may be asked about each of the points, with its starts in S and its boxes in X
-pub record AllAsked (v : List Float) (cs S : List ℕ) (X ps : List Float) : Type 0 where
-  pub some : 0 < length cs
-  pub few : count ps ≤ pointPlaces
-  pub boxed : Boxed (outlinesOf v cs) X
-  pub each : (i : ℕ) → i < count ps → Asked v cs S (vertexAt ps i)

@@ -2,3 +2,5 @@
 
 -- The tests, and all that the call leaves.
 pub mod Answers
+-- What the work asks and leaves.
+pub mod Work

@@ -5,7 +5,8 @@ use Rattle.lists.specs.Lists.{atFront}
 use Rattle.accept.specs.declared.Answer.the-variants.{Count}
 use Rattle.index.specs.Buffer.{IndexBuffer}
 use Rattle.set.proofs.SetLaws.{outlines-length}
-use Rattle.many.specs.Answers.{ManyLent, answerLists, manyLeft, writtenOf, withAnswers, manyWorked}
+use Rattle.many.specs.Answers.{ManyLent, answerLists, writtenOf, withAnswers, manyWorked}
+use Rattle.many.specs.Work.{manyLeft}
 use borrow.Author.Needs.{needs}
 use Rattle.many.proofs.answered.Statement.{statement}
 use Rattle.many.proofs.answered.Tie as tie
