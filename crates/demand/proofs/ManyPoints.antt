@@ -29,8 +29,10 @@ module _ (v : List Float) (cs : List ℕ) (ps : List Float) (L : ManyLent) (pass
   least-left i l d =
       let h = many-passed v cs ps L passed in
       let e = one-by-one v cs ps L passed some i l (L .buffer) (h .buffer) ∙ ap nearestFields (d .nearest .answer (L .buffer) (h .buffer)) in
-      ap₂ (λ (k : ℕ) (x : Float). record { outline = k; distance = x }) (ap (λ (a : NearestFields). a .outline) e) (ap (λ (a : NearestFields). a .distance) e)
+      let o = ap (λ (a : NearestFields). a .outline) e in
+      ap₂ (λ (k : ℕ) (x : Float). record { outline = k; distance = x }) o (ap (λ (a : NearestFields). a .distance) e)
 
   -- MANY POINTS of an accepted call, on the grid
-  pub many-least : OutlineOn v → (i : ℕ) → i < count ps → {q : PointZ} → PointOn (vertexAt ps i) q → (d : Demand3 v cs (vertexAt ps i) q) × (left i ≡ d .nearest .best)
+  pub many-least : OutlineOn v → (i : ℕ) → i < count ps → {q : PointZ} → PointOn (vertexAt ps i) q
+      → (d : Demand3 v cs (vertexAt ps i) q) × (left i ≡ d .nearest .best)
   many-least grid i l on = let d = demand-3 v cs (many-passed v cs ps L passed .set) some grid on in (d, least-left i l d)

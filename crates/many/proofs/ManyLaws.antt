@@ -1,14 +1,14 @@
 -- What a call for many points that passes the tests has, and what it leaves in its lists, one point after the other. Assumes nothing.
-use mathlib.Core.Path.{_≡_, sym, ap, _∙_}
+use mathlib.Core.Path.{_≡_, ap, _∙_}
 use mathlib.Core.Bool.{true, false, not}
-use mathlib.Core.List.{List, map}
+use mathlib.Core.List.{List}
 use Prim.Native.Nat.{ℕ, _+_, _%_, _≤_, _<_}
 use native.Mathlib.Omega.{arith}
-use borrow.Author.Tests.{eq-eqb, ne-eqb, ltb-false, not-false}
+use borrow.Author.Tests.{ne-eqb, ltb-false, not-false}
 use lib.Dec.{eqb, ltb}
 use lib.ListN.{length, getD}
 use lib.Seq.{sets}
-use lib.Ieee.{Float, nan}
+use lib.Ieee.{Float}
 use Rattle.boundary.specs.declared.Point.{Point}
 use Rattle.boundary.specs.Boxes.{pointInField}
 use Rattle.boundary.specs.Outline.{count, vertexAt, vertices}
@@ -23,11 +23,10 @@ use Rattle.set.specs.Set.{Outline, outlinesOf}
 use Rattle.set.specs.Tests.{setTested}
 use Rattle.set.proofs.SetLaws.{outlines-length}
 use Rattle.set.proofs.AskLaws.{set-ready}
-use Rattle.search.specs.declared.Best.{Best}
 use Rattle.search.specs.Least.{leastIn}
 use Rattle.nearest.specs.declared.NearestFields.{NearestFields}
 use Rattle.nearest.specs.Nearest.{nearestIn, nearestFields}
-use Rattle.many.specs.Answers.{AnswerLists, ManyLent, answerLists, pointPlaces, badPointCount, anyBadPoint, shortLists, manyTested, answersOf, writtenOf, withAnswers}
+use Rattle.many.specs.Answers.{ManyLent, answerLists, pointPlaces, badPointCount, anyBadPoint, shortLists, manyTested, answersOf, writtenOf, withAnswers}
 use Rattle.many.specs.Work.{ManyReady}
 
 -- ---- what passing the tests tells
@@ -81,7 +80,8 @@ module _ (os : List Outline) (ps : List Float) where
 
   -- both lists, as they are when the last is written
   pub lists-written : (O : List ℕ) (D : List Float) → count ps ≤ length O → count ps ≤ length D
-      → answerLists (sets O 0 (run (λ i. answerAt i .outline) 0 (count ps))) (sets D 0 (run (λ i. answerAt i .distance) 0 (count ps))) ≡ withAnswers (answersOf os ps) (answerLists O D)
+      → answerLists (sets O 0 (run (λ i. answerAt i .outline) 0 (count ps))) (sets D 0 (run (λ i. answerAt i .distance) 0 (count ps)))
+      ≡ withAnswers (answersOf os ps) (answerLists O D)
   unfolding withAnswers atFront
   lists-written O D o d =
       let n = length-run (λ i. answerAt i .outline) 0 (count ps) in
@@ -95,7 +95,8 @@ module _ (os : List Outline) (ps : List Float) where
       )
 
 -- the nearest answer over a set that has an outline is the best of its outlines
-pub answer-best : (os : List Outline) (p : Point) → 0 < length os → nearestFields (nearestIn os p) ≡ record { number = 0; found = 1; outline = leastIn os p .outline; distance = leastIn os p .distance }
+pub answer-best : (os : List Outline) (p : Point) → 0 < length os
+    → nearestFields (nearestIn os p) ≡ record { number = 0; found = 1; outline = leastIn os p .outline; distance = leastIn os p .distance }
 unfolding nearestIn
 answer-best os p some = rw (ne-eqb (length os) 0 (λ z. omega arith))
 

@@ -25,14 +25,13 @@ use Rattle.index.specs.Buffer.{IndexBuffer, shortBuffer, cleared}
 use Rattle.set.specs.Set.{Outline, outlinesOf}
 use Rattle.set.proofs.SetLaws.{outlines-length}
 use Rattle.set.proofs.AskLaws.{query-passes, query-worked}
-use Rattle.search.specs.declared.Best.{Best}
 use Rattle.nearest.specs.declared.Nearest.{Nearest}
-use Rattle.nearest.specs.declared.Nearest.the-variants.{Refused, At}
+use Rattle.nearest.specs.declared.Nearest.the-variants.{Refused}
 use Rattle.nearest.specs.declared.NearestFields.{NearestFields}
 use Rattle.nearest.specs.Nearest.{nearestIn, nearestFields, NearestIs}
 use Rattle.nearest.specs.Answers.{nearestOutcome, nearestCall}
 use Rattle.nearest.proofs.AcceptedNearest.{answers-nearest}
-use Rattle.many.specs.Answers.{AnswerLists, ManyLent, anyBadPoint, manyTested, answersOf, writtenOf, withAnswers, foundOver, manyWorked, manyOutcome, manyCall}
+use Rattle.many.specs.Answers.{AnswerLists, ManyLent, manyTested, writtenOf, withAnswers, manyWorked, manyOutcome, manyCall}
 use Rattle.many.proofs.ManyLaws.{ManyPassed, many-passed, point-fits, answerAt, answers-run, answer-best, written-all}
 
 module _ (v : List Float) (cs : List ℕ) (ps : List Float) (L : ManyLent) where
@@ -59,12 +58,14 @@ module _ (v : List Float) (cs : List ℕ) (ps : List Float) (L : ManyLent) where
       go : (t : Test) → manyTested v cs ps L ≡ t → ManyPassed v cs ps L
       go Passed p = many-passed v cs ps L p
       go (Failed r) p =
-          let z = sym (ap (λ (o : Outcome CountFields ManyLent). o .answer .number) (ap (inFields countFields) (given-failed p (manyWorked v cs ps L) (refusedWith L)))) ∙ e in
+          let left = ap (inFields countFields) (given-failed p (manyWorked v cs ps L) (refusedWith L)) in
+          let z = sym (ap (λ (o : Outcome CountFields ManyLent). o .answer .number) left) ∙ e in
           let n = number-above r in
           absurd (omega arith)
 
   -- REFUSED: the refusal's number, and all that was lent as it was
-  pub refused-leaves : {r : Refusal} → manyTested v cs ps L ≡ Failed r → manyCall v cs ps L ≡ record { answer = record { number = number r; count = 0 }; lent = L }
+  pub refused-leaves : {r : Refusal} → manyTested v cs ps L ≡ Failed r
+      → manyCall v cs ps L ≡ record { answer = record { number = number r; count = 0 }; lent = L }
   unfolding manyCall manyOutcome
   refused-leaves p = ap (inFields countFields) (given-failed p (manyWorked v cs ps L) (refusedWith L))
 
@@ -75,7 +76,8 @@ module _ (v : List Float) (cs : List ℕ) (ps : List Float) (L : ManyLent) where
     call-is = ap (inFields countFields) (given-passed passed (manyWorked v cs ps L) (refusedWith L))
 
     -- NONE over an empty set: neither list is written
-    pub none-over-empty : length cs ≡ 0 → manyCall v cs ps L ≡ record { answer = record { number = 0; count = 0 }; lent = record { buffer = cleared (L .buffer); lists = L .lists } }
+    pub none-over-empty : length cs ≡ 0
+        → manyCall v cs ps L ≡ record { answer = record { number = 0; count = 0 }; lent = record { buffer = cleared (L .buffer); lists = L .lists } }
     unfolding manyWorked writtenOf withAnswers atFront
     none-over-empty e = let n = outlines-length v cs in call-is ∙ rw (eq-eqb (length os) 0 (n ∙ e))
 
@@ -122,27 +124,39 @@ module _ (v : List Float) (cs : List ℕ) (ps : List Float) (L : ManyLent) where
         abbrev pub point : Point
         point = vertexAt ps i
 
-        member : {A : Type 0} (f : NearestFields → A) (d : A) → getD (map f (run (answerAt os ps) 0 (count ps))) i d ≡ f (nearestFields (nearestIn os point))
+        member : {A : Type 0} (f : NearestFields → A) (d : A)
+            → getD (map f (run (answerAt os ps) 0 (count ps))) i d ≡ f (nearestFields (nearestIn os point))
         member f d =
             let z : 0 + i ≡ i = omega arith in
-            ap (λ (xs : List _). getD xs i d) (map-run f (answerAt os ps) 0 (count ps)) ∙ run-at (λ k. f (answerAt os ps k)) 0 (count ps) i d l ∙ ap (λ (k : ℕ). f (answerAt os ps k)) z
+            ap (λ (xs : List _). getD xs i d) (map-run f (answerAt os ps) 0 (count ps))
+            ∙ run-at (λ k. f (answerAt os ps k)) 0 (count ps) i d l ∙ ap (λ (k : ℕ). f (answerAt os ps k)) z
 
         outline-is : outlineLeft i ≡ nearestFields (nearestIn os point) .outline
-        outline-is = let n = sized (λ a. a .outline) in outlines-are i ∙ front-at outlinesAt (L .lists .outlines) 0 i (omega arith) ∙ member (λ a. a .outline) 0
+        outline-is =
+            let n = sized (λ a. a .outline) in
+            outlines-are i ∙ front-at outlinesAt (L .lists .outlines) 0 i (omega arith) ∙ member (λ a. a .outline) 0
 
         distance-is : distanceLeft i ≡ nearestFields (nearestIn os point) .distance
-        distance-is = let n = sized (λ a. a .distance) in distances-are i ∙ front-at distancesAt (L .lists .distances) nan i (omega arith) ∙ member (λ a. a .distance) nan
+        distance-is =
+            let n = sized (λ a. a .distance) in
+            distances-are i ∙ front-at distancesAt (L .lists .distances) nan i (omega arith) ∙ member (λ a. a .distance) nan
 
         answer-left : record { number = 0; found = 1; outline = outlineLeft i; distance = distanceLeft i } ≡ nearestFields (nearestIn os point)
-        answer-left = let e = answer-best os point outlines-some in ap₂ (λ (k : ℕ) (d : Float). record { number = 0; found = 1; outline = k; distance = d }) (outline-is ∙ ap (λ (a : NearestFields). a .outline) e) (distance-is ∙ ap (λ (a : NearestFields). a .distance) e) ∙ sym e
+        answer-left =
+            let e = answer-best os point outlines-some in
+            let o = outline-is ∙ ap (λ (a : NearestFields). a .outline) e in
+            let d = distance-is ∙ ap (λ (a : NearestFields). a .distance) e in
+            ap₂ (λ (k : ℕ) (d : Float). record { number = 0; found = 1; outline = k; distance = d }) o d ∙ sym e
 
         -- ONE BY ONE: it is what the single call answers for point i, in any working buffers of index size
-        pub one-by-one : (B : IndexBuffer) → shortBuffer B ≡ false → record { number = 0; found = 1; outline = outlineLeft i; distance = distanceLeft i } ≡ nearestCall v cs point B .answer
+        pub one-by-one : (B : IndexBuffer) → shortBuffer B ≡ false
+            → record { number = 0; found = 1; outline = outlineLeft i; distance = distanceLeft i } ≡ nearestCall v cs point B .answer
         unfolding nearestCall nearestOutcome
         one-by-one B long =
             let h = many-passed v cs ps L passed in
             let q = query-passes v cs point B (h .set) (point-fits ps (h .points) i l) long in
-            answer-left ∙ sym (ap (λ (o : Outcome Nearest IndexBuffer). nearestFields (o .answer)) (query-worked v cs point B (nearestIn os point) Refused q))
+            let w = query-worked v cs point B (nearestIn os point) Refused q in
+            answer-left ∙ sym (ap (λ (o : Outcome Nearest IndexBuffer). nearestFields (o .answer)) w)
 
         -- NEAREST: an outline with the least magnitude, and of those the one with the lowest number
         pub place-nearest : Doubles v → DoublePoint point → NearestIs os point (record { outline = outlineLeft i; distance = distanceLeft i })
