@@ -75,6 +75,11 @@ module _ (v : List Float) (cs : List ℕ) (ps : List Float) (L : ManyLent) where
     unfolding manyCall manyOutcome
     call-is = ap (inFields countFields) (given-passed passed (manyWorked v cs ps L) (refusedWith L))
 
+    -- CLEARED: the working buffer, over every set
+    pub buffer-cleared : manyCall v cs ps L .lent .buffer ≡ cleared (L .buffer)
+    unfolding manyWorked
+    buffer-cleared = ap (λ (o : Outcome CountFields ManyLent). o .lent .buffer) call-is
+
     -- NONE over an empty set: neither list is written
     pub none-over-empty : length cs ≡ 0
         → manyCall v cs ps L ≡ record { answer = record { number = 0; count = 0 }; lent = record { buffer = cleared (L .buffer); lists = L .lists } }
@@ -86,7 +91,7 @@ module _ (v : List Float) (cs : List ℕ) (ps : List Float) (L : ManyLent) where
       outlines-some : 0 < length os
       outlines-some = let n = outlines-length v cs in omega arith
 
-      -- FOUND, for no points too; the working buffer is cleared
+      -- FOUND, for no points too
       pub found-over-some : manyCall v cs ps L .answer ≡ record { number = 0; count = 1 }
       unfolding manyWorked
       found-over-some = rw (call-is, ne-eqb (length os) 0 (λ z. let n = outlines-some in omega arith))
@@ -95,51 +100,49 @@ module _ (v : List Float) (cs : List ℕ) (ps : List Float) (L : ManyLent) where
       unfolding manyWorked
       lists-are = rw (call-is, written-all v cs ps some, answers-run os ps)
 
-      abbrev outlinesAt : List ℕ
-      outlinesAt = map (λ (a : NearestFields). a .outline) (run (answerAt os ps) 0 (count ps))
+      -- a field f of the answers, at the front of a list that had `rest`
+      module _ {A : Type 0} (f : NearestFields → A) (rest : List A) (d : A) (i : ℕ) where
+        abbrev answers : List A
+        answers = map f (run (answerAt os ps) 0 (count ps))
 
-      abbrev distancesAt : List Float
-      distancesAt = map (λ (a : NearestFields). a .distance) (run (answerAt os ps) 0 (count ps))
+        sized : length answers ≡ count ps
+        sized = length-map (run (answerAt os ps) 0 (count ps)) f ∙ length-run (answerAt os ps) 0 (count ps)
 
-      sized : {A : Type 0} (f : NearestFields → A) → length (map f (run (answerAt os ps) 0 (count ps))) ≡ count ps
-      sized f = length-map (run (answerAt os ps) 0 (count ps)) f ∙ length-run (answerAt os ps) 0 (count ps)
+        field-past : count ps ≤ i → getD (atFront answers rest) i d ≡ getD rest i d
+        field-past l = let n = sized in front-past answers rest d i (omega arith)
 
-      outlines-are : (i : ℕ) → outlineLeft i ≡ getD (atFront outlinesAt (L .lists .outlines)) i 0
+        field-at : i < count ps → getD (atFront answers rest) i d ≡ f (answerAt os ps i)
+        field-at l =
+            let n = sized in
+            let z : 0 + i ≡ i = omega arith in
+            front-at answers rest d i (omega arith) ∙ ap (λ (xs : List A). getD xs i d) (map-run f (answerAt os ps) 0 (count ps))
+            ∙ run-at (λ k. f (answerAt os ps k)) 0 (count ps) i d l ∙ ap (λ (k : ℕ). f (answerAt os ps k)) z
+
+      outlines-are : (i : ℕ) → outlineLeft i ≡ getD (atFront (answers (λ a. a .outline) (L .lists .outlines) 0 i) (L .lists .outlines)) i 0
       unfolding withAnswers
       outlines-are i = ap (λ (l : AnswerLists). getD (l .outlines) i 0) lists-are
 
-      distances-are : (i : ℕ) → distanceLeft i ≡ getD (atFront distancesAt (L .lists .distances)) i nan
+      distances-are : (i : ℕ) → distanceLeft i ≡ getD (atFront (answers (λ a. a .distance) (L .lists .distances) nan i) (L .lists .distances)) i nan
       unfolding withAnswers
       distances-are i = ap (λ (l : AnswerLists). getD (l .distances) i nan) lists-are
 
       -- PAST THE POINTS the places are unchanged
       pub outlines-past : (i : ℕ) → count ps ≤ i → outlineLeft i ≡ getD (L .lists .outlines) i 0
-      outlines-past i l = let n = sized (λ a. a .outline) in outlines-are i ∙ front-past outlinesAt (L .lists .outlines) 0 i (omega arith)
+      outlines-past i l = outlines-are i ∙ field-past (λ a. a .outline) (L .lists .outlines) 0 i l
 
       pub distances-past : (i : ℕ) → count ps ≤ i → distanceLeft i ≡ getD (L .lists .distances) i nan
-      distances-past i l = let n = sized (λ a. a .distance) in distances-are i ∙ front-past distancesAt (L .lists .distances) nan i (omega arith)
+      distances-past i l = distances-are i ∙ field-past (λ a. a .distance) (L .lists .distances) nan i l
 
       -- place i is the answer for point i
       module _ (i : ℕ) (l : i < count ps) where
         abbrev pub point : Point
         point = vertexAt ps i
 
-        member : {A : Type 0} (f : NearestFields → A) (d : A)
-            → getD (map f (run (answerAt os ps) 0 (count ps))) i d ≡ f (nearestFields (nearestIn os point))
-        member f d =
-            let z : 0 + i ≡ i = omega arith in
-            ap (λ (xs : List _). getD xs i d) (map-run f (answerAt os ps) 0 (count ps))
-            ∙ run-at (λ k. f (answerAt os ps k)) 0 (count ps) i d l ∙ ap (λ (k : ℕ). f (answerAt os ps k)) z
-
         outline-is : outlineLeft i ≡ nearestFields (nearestIn os point) .outline
-        outline-is =
-            let n = sized (λ a. a .outline) in
-            outlines-are i ∙ front-at outlinesAt (L .lists .outlines) 0 i (omega arith) ∙ member (λ a. a .outline) 0
+        outline-is = outlines-are i ∙ field-at (λ a. a .outline) (L .lists .outlines) 0 i l
 
         distance-is : distanceLeft i ≡ nearestFields (nearestIn os point) .distance
-        distance-is =
-            let n = sized (λ a. a .distance) in
-            distances-are i ∙ front-at distancesAt (L .lists .distances) nan i (omega arith) ∙ member (λ a. a .distance) nan
+        distance-is = distances-are i ∙ field-at (λ a. a .distance) (L .lists .distances) nan i l
 
         answer-left : record { number = 0; found = 1; outline = outlineLeft i; distance = distanceLeft i } ≡ nearestFields (nearestIn os point)
         answer-left =
