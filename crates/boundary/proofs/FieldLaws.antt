@@ -81,6 +81,16 @@ double-point-field {p} d t = record {
 pub double-box-field : {b : Bounds} → DoubleBox b → T (boxFits b) → FieldBox b
 double-box-field {b} d t = double-field d (fits-in-field b t)
 
+-- no minimum of a box that passes test 11 is above its maximum
+pub fits-ordered : (b : Bounds) → T (boxFits b) → T (le (b .min .x) (b .max .x)) × T (le (b .min .y) (b .max .y))
+unfolding boxFits
+fits-ordered b h =
+    let h₁ = and-r (inField (b .min .x)) _ h in
+    let h₂ = and-r (inField (b .min .y)) _ h₁ in
+    let h₃ = and-r (inField (b .max .x)) _ h₂ in
+    let h₄ = and-r (inField (b .max .y)) _ h₃ in
+    (and-l (le (b .min .x) (b .max .x)) _ h₄, and-r (le (b .min .x) (b .max .x)) _ h₄)
+
 pub field-not-nan : {x : Float} → FieldValue x → T (not (isNan x))
 field-not-nan {x} h = in-field-number x (h .in-field)
 

@@ -10,3 +10,5 @@ pub mod MemberLaws
 pub mod StoreLaws
 -- What is written to the front of a list, and zeros there.
 pub mod FrontLaws
+-- A list with members left out.
+pub mod SublistLaws

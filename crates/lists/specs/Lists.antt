@@ -57,6 +57,12 @@ pub data Each {A B : Type 0} (R : A → B → Type 0) : List A → List B → Ty
   none : Each R [] []
   more : {x : A} {y : B} {xs : List A} {ys : List B} → R x y → Each R xs ys → Each R (x ∷ xs) (y ∷ ys)
 
+-- the first is the second with some members left out, in the same order
+pub data Sublist {A : Type 0} : List A → List A → Type 0 where
+  ended : Sublist [] []
+  kept : {x : A} {xs ys : List A} → Sublist xs ys → Sublist (x ∷ xs) (x ∷ ys)
+  left-out : {y : A} {xs ys : List A} → Sublist xs ys → Sublist xs (y ∷ ys)
+
 -- ---- a lent list as a call leaves it
 -- xs from the front on, and the places past its end unchanged
 unfoldable pub atFront : {A : Type 0} → List A → List A → List A

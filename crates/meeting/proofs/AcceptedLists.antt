@@ -1,17 +1,17 @@
 -- WHAT A CALL THAT PASSES THE TESTS LISTS: what `meeting` and the Rust's walk do, and so every box that shares a point with the cell. Assumes nothing.
 use mathlib.Core.Path.{_≡_, refl, sym, ap, _∙_}
-use mathlib.Core.Bool.{false}
 use mathlib.Core.List.{List}
-use Prim.Native.Nat.{ℕ, _+_, _*_, _<_}
+use Prim.Native.Nat.{ℕ, _+_, _*_, _≤_, _<_}
 use native.Mathlib.Omega.{arith}
 use lib.ListN.{length, drop}
 use lib.Seq.{take-at}
 use lib.Ieee.{Float}
 use Rattle.number.specs.Exact.{Doubles}
 use Rattle.boundary.specs.declared.Bounds.{Bounds}
-use Rattle.boundary.specs.Boxes.{DoubleBox, FieldBox}
+use Rattle.boundary.specs.Boxes.{DoubleBox, FieldBox, Around}
 use Rattle.boundary.proofs.FieldLaws.{double-box-field}
-use Rattle.lists.specs.Lists.{In, atFront}
+use Rattle.lists.specs.Lists.{In, Sublist, atFront}
+use Rattle.lists.proofs.SublistLaws.{sublist-in, sublist-length}
 use Rattle.accept.specs.declared.Answer.{Answer}
 use Rattle.accept.specs.declared.Answer.the-variants.{Count}
 use Rattle.accept.specs.declared.Test.the-variants.{Passed}
@@ -22,8 +22,10 @@ use Rattle.tree.specs.Tree.{indexOf}
 use Rattle.index.specs.Buffer.{IndexBuffer, cleared}
 use Rattle.index.specs.Answers.{boxesTested}
 use Rattle.index.proofs.IndexCovers.{passed-fits, nested}
-use Rattle.meeting.specs.Meeting.{apart, meetingOf, visitedOf}
-use Rattle.meeting.specs.Answers.{MeetingLent, meetingTested, listing, meetingOutcome, listedBy}
+use Rattle.meeting.specs.Meeting.{SharedPoint, meetingOf, visitedOf}
+use Rattle.meeting.specs.Answers.{MeetingLent, meetingTested, listing, meetingOutcome, meetingCall, listedBy}
+use Rattle.meeting.proofs.ApartLaws.{shared-not-apart}
+use Rattle.meeting.proofs.NestedCells.{meeting-sublist}
 use Rattle.meeting.proofs.MeetingLaws.{visited-is, meeting-accepted}
 use Rattle.meeting.proofs.MeetingLists.{meeting-lists}
 
@@ -58,12 +60,30 @@ module _ (v : List Float) (c : Bounds) (B : IndexBuffer) (S : List ℕ) (passed 
   unfolding listedBy atFront
   lists-meeting = let M = meetingOf c (indexOf v) in rw (counts-meeting, fronts-meeting) (take-at M (drop (length M) S) (length M) refl)
 
+  -- as many as it counts
+  counts-listed : meetingCall v c B S .answer .count ≡ length (listedBy v c B S)
+  counts-listed = rw (lists-meeting, counts-meeting)
+
   -- THE RUST'S WALK, which leaves a node whose box shares no point with all below it, lists the same
   pub lists-visited : listedBy v c B S ≡ visitedOf c (indexOf v)
   lists-visited = lists-meeting ∙ sym (visited-is c (indexOf v) (nested v boxes-pass))
 
   -- EVERY BOX that shares a point with the cell is listed
-  pub lists-sharing : Doubles v → (k : ℕ) → k < boxCount v → apart (boxAt v k) c ≡ false → In k (listedBy v c B S)
-  lists-sharing held k l shares =
+  pub lists-sharing : Doubles v → (k : ℕ) → k < boxCount v → SharedPoint (boxAt v k) c → In k (listedBy v c B S)
+  lists-sharing held k l shared =
       let field : FieldBox (boxAt v k) = double-box-field (boxes-double v held k l) (passed-fits v boxes-pass k l) in
-      rw lists-meeting (meeting-lists v c k boxes-pass l field shares)
+      rw lists-meeting (meeting-lists v c k boxes-pass l field (shared-not-apart (boxAt v k) c shared))
+
+-- ---- zooming out (document 02, U2): two calls over the same boxes, one for the cell c, one for a cell d that c lies inside, each with buffers of its own
+module _ (v : List Float) (c d : Bounds) (B E : IndexBuffer) (S U : List ℕ) (passed : meetingTested v c B S ≡ Passed) (passes : meetingTested v d E U ≡ Passed) (inside : Around d c) where
+  -- IN ORDER: what the inner cell lists is what the outer lists with some items left out
+  pub zooming-out-order : Sublist (listedBy v c B S) (listedBy v d E U)
+  zooming-out-order = rw (lists-meeting v c B S passed, lists-meeting v d E U passes) (meeting-sublist c d inside (indexOf v))
+
+  -- COUNTED: no fewer
+  pub zooming-out-counts : meetingCall v c B S .answer .count ≤ meetingCall v d E U .answer .count
+  zooming-out-counts = rw (counts-listed v c B S passed, counts-listed v d E U passes) (sublist-length zooming-out-order)
+
+  -- KEPT: every item that the inner cell lists is listed for the outer
+  pub zooming-out-keeps : (k : ℕ) → In k (listedBy v c B S) → In k (listedBy v d E U)
+  zooming-out-keeps k = sublist-in k zooming-out-order

@@ -4,14 +4,11 @@ use mathlib.Core.Bool.{Bool, true, false, not, cond, _||_}
 use mathlib.Core.List.{List, [], _∷_, _++_}
 use Prim.Native.Nat.{ℕ, zero, suc, _+_, _≤_}
 use native.Mathlib.Omega.{arith}
-use lib.Dec.{T, eqb, ltb}
+use lib.Dec.{eqb, ltb}
 use lib.ListN.{length, length-append}
 use lib.Ieee.{Float, lt, le}
 use borrow.Author.Tests.{eqb-true, eqb-false, lt-ltb, le-ltb, ltb-false}
-use lib.Ieee.Bits.{is-true}
-use Rattle.number.proofs.OrderLaws.{below-through, through-below}
 use Rattle.boundary.specs.declared.Bounds.{Bounds}
-use Rattle.boundary.specs.Boxes.{Around}
 use Rattle.boundary.specs.Boxes.{boxFits}
 use Rattle.accept.specs.Answers.{Outcome}
 use Rattle.lists.specs.Lists.{atFront}
@@ -32,35 +29,10 @@ use Rattle.index.proofs.IndexCovers.{Nested, nested, index-stands}
 use Rattle.meeting.specs.Meeting.{apart, meetingOf, visitedOf}
 use Rattle.meeting.specs.Walk.{hits, found}
 use Rattle.meeting.specs.Answers.{MeetingLent, meetingTested, listing, meetingOutcome}
+use Rattle.meeting.proofs.ApartLaws.{apart-inside}
 use Rattle.meeting.proofs.WalkLaws.{Puts, put-list, put-place, hits-level}
 
 -- ---- leaf boxes alone decide
-or-true : (a b c d a′ b′ c′ d′ : Bool) → (a ≡ true → a′ ≡ true) → (b ≡ true → b′ ≡ true) → (c ≡ true → c′ ≡ true) → (d ≡ true → d′ ≡ true)
-    → (a || (b || (c || d))) ≡ true → (a′ || (b′ || (c′ || d′))) ≡ true
-or-true true b c d a′ b′ c′ d′ p q r s e = rw (p refl)
-or-true false true c d true b′ c′ d′ p q r s e = refl
-or-true false true c d false b′ c′ d′ p q r s e = rw (q refl)
-or-true false false true d true b′ c′ d′ p q r s e = refl
-or-true false false true d false true c′ d′ p q r s e = refl
-or-true false false true d false false c′ d′ p q r s e = rw (r refl)
-or-true false false false d true b′ c′ d′ p q r s e = refl
-or-true false false false d false true c′ d′ p q r s e = refl
-or-true false false false d false false true d′ p q r s e = refl
-or-true false false false d false false false d′ p q r s e = s e
-
-low-apart : (x y z : Float) → lt x y ≡ true → T (le y z) → lt x z ≡ true
-low-apart x y z e h = is-true (lt x z) (below-through x y z (subst T (sym e) tt) h)
-
-high-apart : (x y z : Float) → T (le x y) → lt y z ≡ true → lt x z ≡ true
-high-apart x y z h e = is-true (lt x z) (through-below x y z h (subst T (sym e) tt))
-
--- what shares no point with the cell has no box in it that does
-pub apart-inside : (b a c : Bounds) → Around b a → apart b c ≡ true → apart a c ≡ true
-unfolding apart
-apart-inside b a c h = or-true _ _ _ _ _ _ _ _
-    (λ e. low-apart (c .max .x) (b .min .x) (a .min .x) e (h .left)) (λ e. high-apart (a .max .x) (b .max .x) (c .min .x) (h .right) e)
-    (λ e. low-apart (c .max .y) (b .min .y) (a .min .y) e (h .bottom)) (λ e. high-apart (a .max .y) (b .max .y) (c .min .y) (h .top) e)
-
 module _ (c : Bounds) where
   meeting-none : (t : Tree) → Nested t → apart (treeBox t) c ≡ true → meetingOf c t ≡ []
   unfolding meetingOf Nested

@@ -17,7 +17,7 @@ use Rattle.tree.specs.Tree.{Tree, leaf, inner, indexOf, itemsOf, EachNode}
 use Rattle.index.specs.Answers.{boxesTested}
 use Rattle.index.proofs.IndexCovers.{items-once, node-boxes}
 use Rattle.meeting.specs.Meeting.{apart, meetingOf}
-use Rattle.meeting.proofs.MeetingLaws.{apart-inside}
+use Rattle.meeting.proofs.ApartLaws.{apart-inside}
 
 module _ (W : ℕ → Bounds) (c : Bounds) (i : ℕ) (meets : apart (W i) c ≡ false) where
   -- where each node's box is around the boxes below it, an item whose box meets the cell is listed

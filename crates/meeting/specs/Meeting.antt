@@ -3,10 +3,18 @@ use mathlib.Core.Bool.{Bool, cond, _||_}
 use mathlib.Core.List.{List, [], _++_}
 use Prim.Native.Nat.{ℕ}
 use lib.Ieee.{lt}
+use Rattle.boundary.specs.declared.Point.{Point}
 use Rattle.boundary.specs.declared.Bounds.{Bounds}
+use Rattle.boundary.specs.Boxes.{Inside}
 use Rattle.tree.specs.Tree.{Tree, leaf, inner}
 
--- the box b and the cell c share no point
+-- the box b and the cell c share a point
+pub record SharedPoint (b c : Bounds) : Type 0 where
+  pub point : Point
+  pub in-box : Inside point b
+  pub in-cell : Inside point c
+
+-- they share none
 unfoldable pub apart : Bounds → Bounds → Bool
 unfolding lt
 apart b c = lt (c .max .x) (b .min .x) || (lt (b .max .x) (c .min .x) || (lt (c .max .y) (b .min .y) || lt (b .max .y) (c .min .y)))
