@@ -27,9 +27,10 @@ void expect_word(const char *call, int line, uint32_t got, uint32_t want);
 #define COUNT(list) ((int)(sizeof(list) / sizeof(list)[0]))
 #define LIST(list) list, sizeof(list) / sizeof(list)[0]
 
-/* trees.c, sets.c and nans.c */
+/* trees.c, sets.c, nans.c and zooms.c */
 void trees(void);
 void sets(void);
 void nans(void);
+void zooms(void);
 
 #endif

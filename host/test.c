@@ -702,6 +702,7 @@ int main(void)
     trees();
     sets();
     nans();
+    zooms();
     printf("%lu answers compared, %lu wrong\n", checks, failures);
     return failures != 0;
 }

@@ -132,3 +132,23 @@ pub fn cell(list: &[f64], r: &mut Random) -> [f64; 4] {
     }
     cell
 }
+
+/// Two cells, the first inside the second where the second is one: sides among the list's numbers, and often
+/// the outer ones.
+pub fn nested(list: &[f64], r: &mut Random) -> [[f64; 4]; 2] {
+    let outer = cell(list, r);
+    let other = cell(list, r);
+    let mut inner = outer;
+    for axis in 0..2 {
+        let (low, high) = (outer[axis], outer[axis + 2]);
+        let within = |x: f64| x.max(low).min(high);
+        let (a, b) = (within(other[axis]), within(other[axis + 2]));
+        if r.below(4) != 0 {
+            inner[axis] = a.min(b);
+        }
+        if r.below(4) != 0 {
+            inner[axis + 2] = a.max(b);
+        }
+    }
+    [inner, outer]
+}

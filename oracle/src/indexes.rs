@@ -13,7 +13,7 @@ use crate::report::{Report, hex_list};
 use crate::sample::Sample;
 
 /// Places of the list that `meeting` writes.
-const LIST: usize = 1024;
+pub const LIST: usize = 1024;
 
 pub fn bounds(list: &[f64]) -> Vec<Bounds> {
     let corner = |x: f64, y: f64| Point::um(x, y);
@@ -68,14 +68,14 @@ fn same_node(a: &Node, b: &Node) -> bool {
     bits(a) == bits(b) && (a.first, a.count) == (b.first, b.count)
 }
 
-struct Case<'a> {
-    report: &'a mut Report,
-    number: u64,
+pub struct Case<'a> {
+    pub report: &'a mut Report,
+    pub number: u64,
 }
 
 impl Case<'_> {
     #[cold]
-    fn differs(&mut self, list: &[f64], what: &str) {
+    pub fn differs(&mut self, list: &[f64], what: &str) {
         let first = hex_list(&list[..list.len().min(96)]);
         let (number, len) = (self.number, list.len());
         self.report.differs(&format!(
@@ -135,7 +135,14 @@ impl Case<'_> {
         }
     }
 
-    fn meeting(&mut self, list: &[f64], cell: [f64; 4], lengths: [usize; 3], room: usize) {
+    /// What the cell lists, where the call is accepted.
+    pub fn meeting(
+        &mut self,
+        list: &[f64],
+        cell: [f64; 4],
+        lengths: [usize; 3],
+        room: usize,
+    ) -> Option<Vec<u32>> {
         self.report.operation("index_meeting");
         let (number, found) = listed(list, cell, lengths, room);
         let mut left = Buffers::new(lengths);
@@ -159,6 +166,8 @@ impl Case<'_> {
         if !space.same(&left) {
             self.differs(list, "the working buffers are not what they must be");
         }
+        given.truncate(count as usize);
+        (ours == 0).then_some(given)
     }
 }
 

@@ -6,7 +6,8 @@
 //!                         outlines, with thirteen calls on each, a fifth as many outlines with a
 //!                         cell to fill, a tenth as many ellipses, and a twentieth as many lists
 //!                         of boxes, with three calls on each, and sets of outlines, with two;
-//!                         a fiftieth as many sets with many points
+//!                         a fiftieth as many sets with many points, and an eightieth as many
+//!                         lists of boxes with two cells, one inside the other
 //!          --sample N     no comparison: writes about N cases with the Rust's answers ..
 //!          --to FOLDER    .. to FOLDER/stdin and FOLDER/stdout
 //!
@@ -32,6 +33,7 @@ mod sets;
 mod shapes;
 mod smallest;
 mod standins;
+mod zooms;
 
 use std::path::PathBuf;
 use std::process::ExitCode;
@@ -97,6 +99,7 @@ fn compare(seed: u64, cases: u64) -> ExitCode {
     indexes::compare(&mut report, seed, cases / 20);
     sets::compare(&mut report, seed, cases / 20);
     many::compare(&mut report, seed, cases / 50);
+    zooms::compare(&mut report, seed, cases / 80);
     let equal = report.finish();
     smallest::print();
     println!("{:.1} s", start.elapsed().as_secs_f64());
