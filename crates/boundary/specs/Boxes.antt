@@ -82,7 +82,7 @@ pub record Inside (p : Point) (b : Bounds) : Type 0 where
   pub x : Between (b .min .x) (p .x) (b .max .x)
   pub y : Between (b .min .y) (p .y) (b .max .y)
 
--- the box n is around the box b: it has both corners of it
+-- the box n is around the box b, which lies inside it: no minimum of b is below that of n, no maximum above
 pub record Around (n b : Bounds) : Type 0 where
   pub left : T (le (n .min .x) (b .min .x))
   pub right : T (le (b .max .x) (n .max .x))

@@ -60,8 +60,8 @@ pub data Each {A B : Type 0} (R : A → B → Type 0) : List A → List B → Ty
 -- the first is the second with some members left out, in the same order
 pub data Sublist {A : Type 0} : List A → List A → Type 0 where
   ended : Sublist [] []
-  kept : {x : A} {xs ys : List A} → Sublist xs ys → Sublist (x ∷ xs) (x ∷ ys)
-  left-out : {y : A} {xs ys : List A} → Sublist xs ys → Sublist xs (y ∷ ys)
+  stays : {x : A} {xs ys : List A} → Sublist xs ys → Sublist (x ∷ xs) (x ∷ ys)
+  omitted : {y : A} {xs ys : List A} → Sublist xs ys → Sublist xs (y ∷ ys)
 
 -- ---- a lent list as a call leaves it
 -- xs from the front on, and the places past its end unchanged

@@ -1,32 +1,35 @@
 -- WHAT A CALL THAT PASSES THE TESTS LISTS: what `meeting` and the Rust's walk do, and so every box that shares a point with the cell. Assumes nothing.
 use mathlib.Core.Path.{_≡_, refl, sym, ap, _∙_}
+use mathlib.Core.Bool.{Bool, true, false}
 use mathlib.Core.List.{List}
 use Prim.Native.Nat.{ℕ, _+_, _*_, _≤_, _<_}
 use native.Mathlib.Omega.{arith}
+use lib.Dec.{ltb}
 use lib.ListN.{length, drop}
 use lib.Seq.{take-at}
 use lib.Ieee.{Float}
+use borrow.Author.Tests.{ltb-true, ltb-false}
 use Rattle.number.specs.Exact.{Doubles}
 use Rattle.boundary.specs.declared.Bounds.{Bounds}
 use Rattle.boundary.specs.Boxes.{DoubleBox, FieldBox, Around}
 use Rattle.boundary.proofs.FieldLaws.{double-box-field}
-use Rattle.lists.specs.Lists.{In, Sublist, atFront}
-use Rattle.lists.proofs.SublistLaws.{sublist-in, sublist-length}
+use Rattle.lists.specs.Lists.{times, In, Sublist, atFront}
+use Rattle.lists.proofs.SublistLaws.{sublist-in, sublist-times, sublist-length}
 use Rattle.accept.specs.declared.Answer.{Answer}
 use Rattle.accept.specs.declared.Answer.the-variants.{Count}
 use Rattle.accept.specs.declared.Test.the-variants.{Passed}
 use Rattle.accept.specs.Answers.{Outcome}
 use Rattle.accept.proofs.TestLaws.{given-passed}
 use Rattle.boxes.specs.BoxLists.{boxCount, boxAt}
-use Rattle.tree.specs.Tree.{indexOf}
+use Rattle.tree.specs.Tree.{indexOf, itemsOf}
 use Rattle.index.specs.Buffer.{IndexBuffer, cleared}
 use Rattle.index.specs.Answers.{boxesTested}
-use Rattle.index.proofs.IndexCovers.{passed-fits, nested}
+use Rattle.index.proofs.IndexCovers.{items-once, passed-fits, nested}
 use Rattle.meeting.specs.Meeting.{SharedPoint, meetingOf, visitedOf}
 use Rattle.meeting.specs.Answers.{MeetingLent, meetingTested, listing, meetingOutcome, meetingCall, listedBy}
 use Rattle.meeting.proofs.ApartLaws.{shared-not-apart}
 use Rattle.meeting.proofs.NestedCells.{meeting-sublist}
-use Rattle.meeting.proofs.MeetingLaws.{visited-is, meeting-accepted}
+use Rattle.meeting.proofs.MeetingLaws.{meeting-items, visited-is, meeting-accepted}
 use Rattle.meeting.proofs.MeetingLists.{meeting-lists}
 
 -- the boxes of a list of `f64`s
@@ -67,6 +70,21 @@ module _ (v : List Float) (c : Bounds) (B : IndexBuffer) (S : List ℕ) (passed 
   -- THE RUST'S WALK, which leaves a node whose box shares no point with all below it, lists the same
   pub lists-visited : listedBy v c B S ≡ visitedOf c (indexOf v)
   lists-visited = lists-meeting ∙ sym (visited-is c (indexOf v) (nested v boxes-pass))
+
+  listed-at : (k : ℕ) (box : Bool) → ltb k (boxCount v) ≡ box → (times k (listedBy v c B S) ≤ 1) × (In k (listedBy v c B S) → k < boxCount v)
+  listed-at k box e = rw lists-meeting (go box e (sublist-times k (meeting-items c (indexOf v))))
+    where
+      go : (box : Bool) → ltb k (boxCount v) ≡ box → {n : ℕ} → n ≤ times k (itemsOf (indexOf v)) → (n ≤ 1) × (0 < n → k < boxCount v)
+      go true e h = let l = ltb-true k (boxCount v) e in let o = items-once v k .0 l in (omega arith, λ p. l)
+      go false e h = let o = items-once v k .1 (ltb-false k (boxCount v) e) in (omega arith, λ p. absurd (omega arith))
+
+  -- ONCE: no number is listed twice
+  pub lists-once : (k : ℕ) → times k (listedBy v c B S) ≤ 1
+  lists-once k = listed-at k (ltb k (boxCount v)) refl .0
+
+  -- and each is that of a box
+  pub lists-boxes : (k : ℕ) → In k (listedBy v c B S) → k < boxCount v
+  lists-boxes k = listed-at k (ltb k (boxCount v)) refl .1
 
   -- EVERY BOX that shares a point with the cell is listed
   pub lists-sharing : Doubles v → (k : ℕ) → k < boxCount v → SharedPoint (boxAt v k) c → In k (listedBy v c B S)

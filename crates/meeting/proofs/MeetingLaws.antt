@@ -11,7 +11,8 @@ use borrow.Author.Tests.{eqb-true, eqb-false, lt-ltb, le-ltb, ltb-false}
 use Rattle.boundary.specs.declared.Bounds.{Bounds}
 use Rattle.boundary.specs.Boxes.{boxFits}
 use Rattle.accept.specs.Answers.{Outcome}
-use Rattle.lists.specs.Lists.{atFront}
+use Rattle.lists.specs.Lists.{Sublist, atFront}
+use Rattle.lists.proofs.SublistLaws.{sublist-self, sublist-none, sublist-append, sublist-length}
 use Rattle.accept.specs.Refusals.{_refusing_when_}
 use Rattle.accept.specs.declared.Answer.the-variants.{Refused, Count}
 use Rattle.accept.specs.declared.Refusal.{Refusal}
@@ -50,19 +51,18 @@ module _ (c : Bounds) where
       go true e p q = rw (meeting-none l (n .3) (apart-inside b (treeBox l) c (n .1) e), meeting-none r (n .4) (apart-inside b (treeBox r) c (n .2) e))
       go false e p q = rw (p, q)
 
-  pub length-meeting : (t : Tree) → length (meetingOf c t) ≤ length (itemsOf t)
+  -- the tree's items in their order, with some left out
+  pub meeting-items : (t : Tree) → Sublist (meetingOf c t) (itemsOf t)
   unfolding meetingOf itemsOf
-  length-meeting (leaf b is) = go (apart b c)
+  meeting-items (leaf b is) = go (apart b c)
     where
-      go : (x : Bool) → length (cond x [] is) ≤ length is
-      go true = omega arith
-      go false = omega arith
-  length-meeting (inner b l r) =
-      let p = length-meeting l in
-      let q = length-meeting r in
-      let u = length-append (meetingOf c l) (meetingOf c r) in
-      let v = length-append (itemsOf l) (itemsOf r) in
-      omega arith
+      go : (x : Bool) → Sublist (cond x [] is) is
+      go true = sublist-none is
+      go false = sublist-self is
+  meeting-items (inner b l r) = sublist-append (meeting-items l) (meeting-items r)
+
+  pub length-meeting : (t : Tree) → length (meetingOf c t) ≤ length (itemsOf t)
+  length-meeting t = sublist-length (meeting-items t)
 
   -- ---- the walk of a buffer in which a tree stands
   visited-leaf : (b : Bounds) (is : List ℕ) → visitedOf c (leaf b is) ≡ cond (apart b c) [] is
