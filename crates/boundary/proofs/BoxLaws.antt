@@ -30,10 +30,10 @@ use Rattle.boundary.specs.declared.Point.{Point}
 use Rattle.boundary.specs.declared.Edge.{Edge}
 use Rattle.boundary.specs.declared.Bounds.{Bounds}
 use Rattle.boundary.specs.Line.{footOf}
-use Rattle.boundary.specs.Boxes.{FieldValue, FieldPoint, FieldEdge, FieldBox, FiniteBox, Between, Share, Inside, hull, edgeBox, leastMargin, nano, scaleOf, widenedBy, widenedOf, Around, gapAlong}
+use Rattle.boundary.specs.Boxes.{PointOf, FieldValue, FieldPoint, FieldEdge, FieldBox, FiniteBox, Between, Inside, hull, edgeBox, leastMargin, nano, scaleOf, widenedBy, widenedOf, Around, gapAlong}
 use Rattle.boundary.proofs.FieldLaws.{field-held, field-is, field-box-finite, field-not-nan, is-field, field-abs, widened-finite}
 use Rattle.number.proofs.Basics.{one-of}
-use Rattle.boundary.proofs.AlongLaws.{param-share, along-inside, ends-between, along-short}
+use Rattle.boundary.proofs.AlongLaws.{param-share, along-inside, ends-between, along-short, along-at-most}
 
 -- ---- an edge's box
 
@@ -184,6 +184,11 @@ module _ {lo hi p q : Float} (L : Held lo) (H : Held hi) (P : Held p) (Q : Held 
 pub foot-short : {e : Edge} {p : Point} → FieldEdge e → FieldPoint p → Short (sub binary64 (p .x) (footOf e p .x)) × Short (sub binary64 (p .y) (footOf e p .y))
 unfolding footOf
 foot-short E P = let t = param-share E P in (along-short (E .a .x) (E .b .x) (P .x) t, along-short (E .a .y) (E .b .y) (P .y) t)
+
+-- the nearest point of an edge is at most 2 ^ 23 away from the origin, of each axis
+pub foot-at-most : {e : Edge} {p : Point} → FieldEdge e → FieldPoint p → PointOf Short (footOf e p)
+unfolding footOf
+foot-at-most E P = let t = param-share E P in record { x = along-at-most (E .a .x) (E .b .x) t; y = along-at-most (E .a .y) (E .b .y) t }
 
 -- ---- a worked example: 1e-9 as the Rust has it
 example-nano : ofBits binary64 0x3e11_2e0b_e826_d695 ≡ nano

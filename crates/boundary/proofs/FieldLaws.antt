@@ -1,11 +1,11 @@
 -- Values of the field as whole numbers, their sums and differences, and boxes of such. Assumes nothing.
-use mathlib.Core.Path.{refl}
-use mathlib.Core.Bool.{not}
-use Prim.Native.Nat.{_^_, _≤_}
+use mathlib.Core.Path.{refl, _≡_}
+use mathlib.Core.Bool.{not, Bool, true, false, cond}
+use Prim.Native.Nat.{_^_, _≤_, ℕ, _+_, _*_, _<_}
 use native.Mathlib.Nat.{le-trans, add-le-add}
-use lib.Dec.{T, lit≤}
+use lib.Dec.{T, lit≤, eqb}
 use lib.IntN.{ℤ, pos, negℤ, natAbs, _-ℤ_, _*ℤ_}
-use lib.Ieee.{Float, binary64, add, sub, neg, lt, le, isNan, fits}
+use lib.Ieee.{Float, binary64, add, sub, neg, lt, le, isNan, fits, nan}
 use lib.Ieee.Fits.{and-l, and-r, and-i, add-fits, sub-fits}
 use lib.Ieee.Scale.{finite}
 use Rattle.algebra.specs.Order.{Within, within-natAbs, natAbs-neg, natAbs-add, le-of-within}
@@ -19,7 +19,14 @@ use Rattle.number.proofs.OrderLaws.{is-order, order-is, right-not-nan, finite-b
 use Rattle.number.proofs.Values.{abs-is, abs-held, rounded-natAbs, add-grown, is-short}
 use Rattle.boundary.specs.declared.Point.{Point}
 use Rattle.boundary.specs.declared.Bounds.{Bounds}
-use Rattle.boundary.specs.Boxes.{limit, inField, pointInField, boxFits, BoxOf, DoublePoint, DoubleBox, FieldValue, FieldPoint, FieldBox, FiniteBox, widenedBy}
+use Rattle.boundary.specs.Boxes.{limit, inField, pointInField, boxFits, BoxOf, DoublePoint, DoubleBox, FieldValue, FieldPoint, FieldBox, FiniteBox, widenedBy, edgeInField}
+use mathlib.Core.List.{List}
+use native.Mathlib.Omega.{arith}
+use lib.ListN.{length, getD}
+use borrow.Author.Tests.{not-false, eqb-false}
+use Rattle.lists.specs.Lists.{any}
+use Rattle.lists.proofs.FoldLaws.{any-at}
+use Rattle.boundary.specs.Outline.{count, after, vertexAt, edgeAt}
 
 -- ---- values of the field
 
@@ -136,3 +143,18 @@ widened-finite B f = record {
   min = record { x = field-sub (B .min .x) f .held; y = field-sub (B .min .y) f .held };
   max = record { x = field-add (B .max .x) f; y = field-add (B .max .y) f };
 }
+
+-- ---- the edges of an outline whose numbers are all in the field
+module _ (v : List Float) (none : any (λ x. not (inField x)) v ≡ false) where
+  pub number-in-field : (i : ℕ) → i < length v → inField (getD v i nan) ≡ true
+  number-in-field i l = not-false (inField (getD v i nan)) (any-at (λ x. not (inField x)) nan v i l none)
+
+  vertex-in-field : (i : ℕ) → i < count v → pointInField (vertexAt v i) ≡ true
+  vertex-in-field i l = rw (number-in-field (2 * i) (omega arith), number-in-field (2 * i + 1) (omega arith))
+
+  pub edge-in-field : (i : ℕ) → i < count v → edgeInField (edgeAt v i) ≡ true
+  edge-in-field i l = rw (vertex-in-field i l, vertex-in-field (after (count v) i) (go (eqb (i + 1) (count v)) refl))
+    where
+      go : (b : Bool) → eqb (i + 1) (count v) ≡ b → cond b 0 (i + 1) < count v
+      go true e = omega arith
+      go false e = let d = eqb-false (i + 1) (count v) e in omega arith

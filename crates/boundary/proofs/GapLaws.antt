@@ -7,7 +7,7 @@ use lib.Ieee.Scale.{finite}
 use Rattle.number.specs.Exact.{Held, zeroᶠ}
 use Rattle.number.specs.Signs.{absOf, maxOf}
 use Rattle.number.proofs.Operations.{finite-is, sub-rounds}
-use Rattle.number.proofs.HypotLaws.{squares-mono, hypot-mono}
+use Rattle.number.proofs.HypotLaws.{squares-mono, hypot-mono, hypot-not-nan}
 use Rattle.number.proofs.OrderLaws.{le-self, le-through, below-le, left-not-nan, right-not-nan}
 use Rattle.number.proofs.MagnitudeOrder.{max-one-of, abs-nonneg, abs-at-most, le-max-left, le-max-right}
 use Rattle.number.proofs.Values.{held-not-nan, rounds-not-nan}
@@ -168,3 +168,12 @@ squares-number b p =
   where
     size : (z : Float) → T (le zeroᶠ z) → T (le (absOf z) (absOf z))
     size z h = le-self (absOf z) (right-not-nan zeroᶠ (absOf z) (abs-nonneg z (right-not-nan zeroᶠ z h)))
+
+-- ---- a gap is a number
+along-number : (lo hi p : Float) → NotNan (gapAlong lo hi p)
+unfolding gapAlong
+along-number lo hi p = right-not-nan zeroᶠ (gapAlong lo hi p) (le-max-right (maxOf (sub binary64 lo p) (sub binary64 p hi)) zeroᶠ (unfold isNan in tt))
+
+pub gap-number : (b : Bounds) (p : Point) → NotNan (gapOf b p)
+unfolding gapOf
+gap-number b p = hypot-not-nan (gapAlong (b .min .x) (b .max .x) (p .x)) (gapAlong (b .min .y) (b .max .y) (p .y)) (along-number (b .min .x) (b .max .x) (p .x)) (along-number (b .min .y) (b .max .y) (p .y))

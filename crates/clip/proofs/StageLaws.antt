@@ -29,6 +29,14 @@ pub place-apart : (half n : ℕ) (b : Bool) → n ≤ half → disjoint (placeOf
 place-apart half n true l = inr (omega arith)
 place-apart half n false l = inl (omega arith)
 
+-- a list that fits, where there is more room
+pub more-room : {to room wide : ℕ} {w : List Float} {n : ℕ} {es : List Edge} → Holds to room w n es → n ≤ room → Holds to wide w n es
+more-room h l = record { count = h .count; list = λ k. h .list l }
+
+-- the list that goes into the first clip
+pub begins : {half : ℕ} {w : List Float} {n : ℕ} {es : List Edge} → Holds 0 half w n es → n ≤ half → Stage half w (record { second = false; n = n }) false es
+begins {half} {w} {n} {es} h l = record { flag = le-ltb half n l; held = λ z. h }
+
 -- ---- what the first pass says
 module _ (s : HalfPlane) (g : ℕ → Edge) (n : ℕ) (l : 1 ≤ n) {f : FirstPass} (e : f ≡ firstPassOf s (g (n - 1)) (run g 0 n)) where
   abbrev es : List Edge

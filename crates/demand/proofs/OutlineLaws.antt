@@ -1,19 +1,12 @@
 -- Where a set's numbers are on the grid, those of each outline are. Assumes nothing.
 use mathlib.Core.List.{List}
-use Prim.Native.Nat.{ℕ, zero, suc, _*_}
+use Prim.Native.Nat.{ℕ, _*_}
 use lib.ListN.{getD, take, drop}
 use lib.Ieee.{Float}
-use Rattle.lists.specs.Lists.{Each}
-use Rattle.lists.specs.Lists.Each.{none, more}
-use Rattle.lists.proofs.MemberLaws.{take-each}
+use Rattle.lists.proofs.MemberLaws.{take-each, drop-each}
 use Rattle.set.specs.Set.{startOf, outlineAt, outlinesOf, outlineIn}
 use Rattle.set.proofs.SetLaws.{outline-is}
 use Rattle.grid.specs.Grid.{OutlineOn}
-
-drop-each : {A B : Type 0} {R : A → B → Type 0} {xs : List A} {ys : List B} (n : ℕ) → Each R xs ys → Each R (drop n xs) (drop n ys)
-drop-each zero r = r
-drop-each (suc n) none = none
-drop-each (suc n) (more h r) = drop-each n r
 
 part-on : (v : List Float) (cs : List ℕ) → OutlineOn v → (k : ℕ) → OutlineOn (outlineAt v cs k)
 unfolding outlineAt

@@ -14,18 +14,10 @@ use Rattle.number.proofs.OrderLaws.{through-below}
 use Rattle.number.proofs.MagnitudeOrder.{max-one-of}
 use Rattle.number.proofs.Values.{abs-held, is-short}
 use Rattle.boundary.specs.declared.Point.{Point}
-use Rattle.boundary.specs.declared.Edge.{Edge}
-use Rattle.boundary.specs.Line.{footOf}
-use Rattle.boundary.specs.Boxes.{PointOf, FieldValue, FieldPoint, FieldEdge}
+use Rattle.boundary.specs.Boxes.{PointOf, FieldValue, FieldPoint}
 use Rattle.distance.specs.Nearest.{units16, roundingOf, flipped}
 use Rattle.distance.specs.Search.{mostThreshold}
 use Rattle.boundary.proofs.FieldLaws.{field-is}
-use Rattle.boundary.proofs.AlongLaws.{param-share, along-at-most}
-
--- the nearest point of an edge is at most 2 ^ 23 away from the origin, of each axis
-pub foot-at-most : {e : Edge} {p : Point} → FieldEdge e → FieldPoint p → PointOf Short (footOf e p)
-unfolding footOf
-foot-at-most E P = let t = param-share E P in record { x = along-at-most (E .a .x) (E .b .x) t; y = along-at-most (E .a .y) (E .b .y) t }
 
 -- a magnitude of at most 2 ^ 23
 record Magnitude (x : Float) : Type 0 where

@@ -3,13 +3,12 @@ use mathlib.Core.Path.{_≡_, refl, sym, ap, _∙_, subst}
 use mathlib.Core.Logic.{_⊎_, inl, inr, ⊎-elim}
 use mathlib.Core.Bool.{Bool, true, false, not, cond}
 use mathlib.Core.List.{List}
-use Prim.Native.Nat.{ℕ, _+_, _-_, _*_, _≤_, _<_}
+use Prim.Native.Nat.{ℕ, _+_, _-_, _≤_, _<_}
 use native.Mathlib.Nat.{le-trans, le-antisymm, lt-irrefl, sub-zero}
 use native.Mathlib.Omega.{arith}
-use borrow.Author.Tests.{eqb-true, eqb-false, ltb-true, ltb-false, not-false}
+use borrow.Author.Tests.{eqb-true, ltb-true, ltb-false}
 use lib.Dec.{T, lit≤, eqb, ltb}
-use lib.ListN.{length, getD}
-use lib.Ieee.{Float, nan, inf, neg, lt, le, eq, fits}
+use lib.Ieee.{Float, inf, neg, lt, le, eq, fits}
 use lib.Ieee.Bits.{is-true}
 use Rattle.number.specs.Exact.{Held}
 use Rattle.number.specs.Hypot.{slack, clearLimit, Short}
@@ -23,17 +22,17 @@ use Rattle.boundary.specs.declared.Point.{Point}
 use Rattle.boundary.specs.declared.Edge.{Edge}
 use Rattle.boundary.specs.declared.Near.{Near}
 use Rattle.distance.specs.declared.FoundEdge.{FoundEdge}
-use Rattle.lists.specs.Lists.{run, fold, any}
-use Rattle.boundary.specs.Outline.{count, after, vertexAt, edgeAt, edges}
+use Rattle.lists.specs.Lists.{run, fold}
+use Rattle.boundary.specs.Outline.{count, edgeAt, edges}
 use Rattle.boundary.specs.Line.{lessPoint, squaresOf, paramOf, footOf, normalOf, lineNear}
 use Rattle.distance.specs.Nearest.{nearer, farAway, nearestOf}
-use Rattle.boundary.specs.Boxes.{inField, pointInField, edgeInField, PointOf, FieldValue, FieldPoint, FieldEdge, Inside, hull, edgeBox}
+use Rattle.boundary.specs.Boxes.{PointOf, FieldValue, FieldPoint, FieldEdge, Inside, hull, edgeBox}
 use Rattle.distance.specs.Search.{margin, outside, gapSquares, lengthTo, foundOf, edgeWins}
 use Rattle.boundary.proofs.AlongLaws.{along-fits, between-held}
 use Rattle.boundary.proofs.BoxLaws.{edge-box-field, edge-box-ends, foot-widened, foot-short}
 use Rattle.boundary.proofs.GapLaws.{out-size}
 use Rattle.boundary.proofs.FieldLaws.{field-held, field-box-finite, widened-finite}
-use Rattle.lists.proofs.FoldLaws.{fold-run-next, fold-run-end, any-at}
+use Rattle.lists.proofs.FoldLaws.{fold-run-next, fold-run-end}
 
 -- ---- an edge that is left out
 
@@ -204,18 +203,3 @@ module _ {v : List Float} {p : Point} {i : ℕ} {best : FoundEdge} (r : FoundEdg
 
 pub searched-end : {v : List Float} {p : Point} {i : ℕ} {best : FoundEdge} → SearchedEdges v p i best → count v ≤ i → lineNear (edgeAt v (best .i)) p ≡ nearestOf (edges v) p
 searched-end {v} {p} {i} {best} S l = ⊎-elim (λ s. sym (s .1) ∙ sym (fold-run-end (nearerStep p) (edgeAt v) (S .first) i (count v) l) ∙ S .left) (λ s. let w = S .edge in let u = s .0 in absurd (lt-irrefl i (omega arith))) (S .place)
-
--- ---- the edges of an outline whose numbers are all in the field
-module _ (v : List Float) (none : any (λ x. not (inField x)) v ≡ false) where
-  number-in-field : (i : ℕ) → i < length v → inField (getD v i nan) ≡ true
-  number-in-field i l = not-false (inField (getD v i nan)) (any-at (λ x. not (inField x)) nan v i l none)
-
-  vertex-in-field : (i : ℕ) → i < count v → pointInField (vertexAt v i) ≡ true
-  vertex-in-field i l = rw (number-in-field (2 * i) (omega arith), number-in-field (2 * i + 1) (omega arith))
-
-  pub edge-in-field : (i : ℕ) → i < count v → edgeInField (edgeAt v i) ≡ true
-  edge-in-field i l = rw (vertex-in-field i l, vertex-in-field (after (count v) i) (go (eqb (i + 1) (count v)) refl))
-    where
-      go : (b : Bool) → eqb (i + 1) (count v) ≡ b → cond b 0 (i + 1) < count v
-      go true e = omega arith
-      go false e = let d = eqb-false (i + 1) (count v) e in omega arith

@@ -1,4 +1,1 @@
--- Laws of the fill.
-
--- The list that goes into the clips.
-pub mod FillLaws
+-- The fill has no laws of its own: its code is proved by those of the clip.

@@ -22,7 +22,7 @@ use Rattle.boundary.proofs.MinMaxLaws.{lesser-is-min, greater-is-max, same-fold
 use Rattle.lists.specs.Lists.{fold}
 use Rattle.lists.proofs.FoldLaws.{any-same}
 use Rattle.lists.proofs.MemberLaws.{every-run}
-use Rattle.distance.proofs.SearchLaws.{edge-in-field}
+use Rattle.boundary.proofs.FieldLaws.{edge-in-field}
 use Rattle.accept.specs.declared.Refusal.the-variants.{BadPoint}
 use Rattle.accept.specs.declared.Test.the-variants.{Passed}
 use Rattle.accept.specs.Refusals.{outlineTested}

@@ -1,8 +1,8 @@
 -- Folds: by a loop, in which what is left to fold gives the final answer; over two lists one after the other; and whether some member passes a test. Assumes nothing.
 use mathlib.Core.Path.{_≡_, refl, sym, ap, _∙_, subst}
-use mathlib.Core.Bool.{Bool, true, false, _||_, true≢false}
+use mathlib.Core.Bool.{Bool, true, false, cond, _||_, true≢false}
 use mathlib.Core.List.{List, [], _∷_, _++_}
-use Prim.Native.Nat.{ℕ, zero, suc, _+_, _-_, _≤_, _<_}
+use Prim.Native.Nat.{ℕ, zero, suc, _+_, _-_, _≤_, _<_, min}
 use native.Mathlib.Numerals.{add-one}
 use native.Mathlib.Omega.{arith}
 use lib.Dec.{T}
@@ -145,3 +145,28 @@ module _ {A : Type 0} (p q : A → Bool) where
   pub any-same : (xs : List A) → Every (λ x. p x ≡ q x) xs → any p xs ≡ any q xs
   unfolding any
   any-same xs h = same-from false xs h
+
+-- ---- the least number that is given to a member: k to those that pass a test, f to the others, to none less than k
+module _ {A : Type 0} (q : A → Bool) (f : A → ℕ) (k : ℕ) (above : (x : A) → k ≤ f x) where
+  two : (x : A) (b c : Bool) (m : ℕ) → k ≤ m → min (cond b k m) (cond c k (f x)) ≡ cond (b || c) k (min m (f x))
+  two x true true m h = omega arith
+  two x true false m h = let a = above x in omega arith
+  two x false true m h = omega arith
+  two x false false m h = refl
+
+  least-from : (b : Bool) (m : ℕ) (xs : List A) → k ≤ m → fold (λ n x. min n (cond (q x) k (f x))) (cond b k m) xs ≡ cond (fold (λ c x. c || q x) b xs) k (fold (λ n x. min n (f x)) m xs)
+  unfolding fold
+  least-from b m [] h = refl
+  least-from b m (x ∷ xs) h =
+      let a = above x in
+      ap (λ (n : ℕ). fold (λ n x. min n (cond (q x) k (f x))) n xs) (two x b (q x) m h) ∙ least-from (b || q x) (min m (f x)) xs (omega arith)
+
+  -- k where some member passes the test, and else the least of the others
+  pub least-first : (m : ℕ) (xs : List A) → k ≤ m → fold (λ n x. min n (cond (q x) k (f x))) m xs ≡ cond (any q xs) k (fold (λ n x. min n (f x)) m xs)
+  unfolding any
+  least-first m xs h = least-from false m xs h
+
+pub least-none : {A : Type 0} (m : ℕ) (xs : List A) → fold (λ n x. min n m) m xs ≡ m
+unfolding fold
+least-none m [] = refl
+least-none m (x ∷ xs) = let e : min m m ≡ m = omega arith in rw e (least-none m xs)

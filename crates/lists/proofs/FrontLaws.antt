@@ -6,8 +6,9 @@ use native.Mathlib.Nat.{not-suc-le-zero, le-of-suc-le-suc}
 use native.Mathlib.Numerals.{add-one}
 use native.Mathlib.Omega.{arith}
 use lib.ListN.{length, getD, set, drop, replicate, length-set, length-replicate, List·getD-append}
-use lib.Seq.{drop-append-add, drop-drop, getD-append-add, getD-drop}
-use Rattle.lists.specs.Lists.{atFront, zeros}
+use lib.Seq.{drop-append-add, drop-cons, drop-drop, getD-append-add, getD-drop, set-at, append-snoc}
+use Rattle.lists.specs.Lists.{run, atFront, zeros}
+use Rattle.lists.proofs.RunLaws.{run-last, length-run}
 
 -- what is written over is gone
 pub front-front : {A : Type 0} (zs xs s : List A) → length xs ≤ length zs → length zs ≤ length s → atFront zs (atFront xs s) ≡ atFront zs s
@@ -27,6 +28,22 @@ module _ {A : Type 0} (xs s : List A) (d : A) (i : ℕ) where
   front-past l =
       let e : length xs + (i - length xs) ≡ i = omega arith in
       ap (λ (k : ℕ). getD (xs ++ drop (length xs) s) k d) (sym e) ∙ getD-append-add xs (drop (length xs) s) (i - length xs) d ∙ getD-drop (length xs) s (i - length xs) d ∙ ap (λ (k : ℕ). getD s k d) e
+
+-- the run g 0, g 1, .. at the front of a list, one more
+pub front-more-run : {A : Type 0} (g : ℕ → A) (xs ys : List A) (i : ℕ) (x : A) → i < length xs → x ≡ g i → ys ≡ run g 0 i ++ drop i xs
+    → set ys i x ≡ run g 0 (i + 1) ++ drop (i + 1) xs
+front-more-run {A} g xs ys i x h ex e =
+    let z : 0 + i ≡ i = omega arith in
+    let last : run g 0 (suc i) ≡ run g 0 i ++ (x ∷ []) = run-last g 0 i ∙ ap (λ (a : A). run g 0 i ++ (a ∷ [])) (ap g z ∙ sym ex) in
+    rw add-one (ap (λ (zs : List A). set zs i x) (e ∙ ap (λ (zs : List A). run g 0 i ++ zs) (drop-cons xs i x h))
+    ∙ set-at (run g 0 i) (getD xs i x) (drop (suc i) xs) x i (length-run g 0 i)
+    ∙ sym (append-snoc (run g 0 i) x (drop (suc i) xs))
+    ∙ ap (λ (zs : List A). zs ++ drop (suc i) xs) (sym last))
+
+-- and all of it
+pub front-run : {A : Type 0} (g : ℕ → A) (n : ℕ) (xs : List A) → run g 0 n ++ drop n xs ≡ atFront (run g 0 n) xs
+unfolding atFront
+front-run g n xs = rw (length-run g 0 n)
 
 module _ {A : Type 0} (z : A) where
   set-next : (i : ℕ) (s : List A) → i < length s → set (replicate i z ++ drop i s) i z ≡ replicate (suc i) z ++ drop (suc i) s

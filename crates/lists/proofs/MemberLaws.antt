@@ -20,6 +20,11 @@ module _ {A B : Type 0} {R : A → B → Type 0} where
   take-each (suc n) none = none
   take-each (suc n) (more h r) = more h (take-each n r)
 
+  pub drop-each : {xs : List A} {ys : List B} (n : ℕ) → Each R xs ys → Each R (drop n xs) (drop n ys)
+  drop-each zero r = r
+  drop-each (suc n) none = none
+  drop-each (suc n) (more h r) = drop-each n r
+
   reverse-onto : {xs xs' : List A} {ys ys' : List B} → Each R xs ys → Each R xs' ys' → Each R (reverseAux xs xs') (reverseAux ys ys')
   reverse-onto none s = s
   reverse-onto (more h r) s = reverse-onto r (more h s)

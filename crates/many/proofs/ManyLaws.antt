@@ -9,7 +9,6 @@ use lib.Dec.{eqb, ltb}
 use lib.ListN.{length, getD}
 use lib.Seq.{sets}
 use lib.Ieee.{Float}
-use Rattle.boundary.specs.declared.Point.{Point}
 use Rattle.boundary.specs.Boxes.{pointInField}
 use Rattle.boundary.specs.Outline.{count, vertexAt, vertices}
 use Rattle.lists.specs.Lists.{run, atFront}
@@ -23,7 +22,6 @@ use Rattle.set.specs.Set.{Outline, outlinesOf}
 use Rattle.set.specs.Tests.{setTested}
 use Rattle.set.proofs.SetLaws.{outlines-length}
 use Rattle.set.proofs.AskLaws.{set-ready}
-use Rattle.search.specs.Least.{leastIn}
 use Rattle.nearest.specs.declared.NearestFields.{NearestFields}
 use Rattle.nearest.specs.Nearest.{nearestIn, nearestFields}
 use Rattle.many.specs.Answers.{ManyLent, answerLists, pointPlaces, badPointCount, anyBadPoint, shortLists, manyTested, answersOf, writtenOf, withAnswers}
@@ -93,12 +91,6 @@ module _ (os : List Outline) (ps : List Float) where
         sets-front O (run (λ i. answerAt i .outline) 0 (count ps)) (omega arith),
         sets-front D (run (λ i. answerAt i .distance) 0 (count ps)) (omega arith),
       )
-
--- the nearest answer over a set that has an outline is the best of its outlines
-pub answer-best : (os : List Outline) (p : Point) → 0 < length os
-    → nearestFields (nearestIn os p) ≡ record { number = 0; found = 1; outline = leastIn os p .outline; distance = leastIn os p .distance }
-unfolding nearestIn
-answer-best os p some = rw (ne-eqb (length os) 0 (λ z. omega arith))
 
 -- what is written: all answers over a set that has an outline, and nothing over an empty one
 module _ (v : List Float) (cs : List ℕ) (ps : List Float) where

@@ -32,7 +32,8 @@ use Rattle.nearest.specs.Nearest.{nearestIn, nearestFields, NearestIs}
 use Rattle.nearest.specs.Answers.{nearestOutcome, nearestCall}
 use Rattle.nearest.proofs.AcceptedNearest.{answers-nearest}
 use Rattle.many.specs.Answers.{AnswerLists, ManyLent, manyTested, writtenOf, withAnswers, manyWorked, manyOutcome, manyCall}
-use Rattle.many.proofs.ManyLaws.{ManyPassed, many-passed, point-fits, answerAt, answers-run, answer-best, written-all}
+use Rattle.nearest.proofs.NearestLeast.{answer-best}
+use Rattle.many.proofs.ManyLaws.{ManyPassed, many-passed, point-fits, answerAt, answers-run, written-all}
 
 module _ (v : List Float) (cs : List ℕ) (ps : List Float) (L : ManyLent) where
   abbrev os : List Outline

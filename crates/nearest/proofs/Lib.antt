@@ -1,7 +1,5 @@
 -- Laws of the nearest query.
 
--- What the query has and leaves.
-pub mod FoundLaws
 -- What the nearest answer is.
 pub mod NearestLeast
 -- The Rust's walk gives the nearest answer.

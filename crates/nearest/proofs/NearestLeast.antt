@@ -17,7 +17,7 @@ use Rattle.search.specs.Least.{magnitudeAt, leastIn}
 use Rattle.search.proofs.LeastLaws.{Upto, LeastOutline, least-of}
 use Rattle.search.proofs.GapLaws.{magnitude-number}
 use Rattle.nearest.specs.declared.Nearest.the-variants.{None, At}
-use Rattle.nearest.specs.Nearest.{nearestIn, NearestIs}
+use Rattle.nearest.specs.Nearest.{nearestIn, NearestIs, nearestFields}
 
 module _ (os : List Outline) (p : Point) where
   differs : (b : Best) (k : ℕ) → Upto (magnitudeAt os p) b k → k < b .outline → (t : Bool) → eq (magnitudeAt os p k) (b .distance) ≡ t → t ≡ false
@@ -53,3 +53,9 @@ module _ (os : List Outline) (p : Point) where
       go : (t : Bool) → eqb (length os) 0 ≡ t → cond t None (At (leastIn os p)) ≡ None → length os ≡ 0
       go true e h = eqb-true (length os) 0 e
       go false e h = let z : _≡_ {A = ℕ} 0 1 = cc in absurd (omega arith)
+
+-- the nearest answer over a set that has an outline is the best of its outlines
+pub answer-best : (os : List Outline) (p : Point) → 0 < length os
+    → nearestFields (nearestIn os p) ≡ record { number = 0; found = 1; outline = leastIn os p .outline; distance = leastIn os p .distance }
+unfolding nearestIn
+answer-best os p some = rw (ne-eqb (length os) 0 (λ z. omega arith))

@@ -27,7 +27,7 @@ use Rattle.search.specs.Least.{magnitudeAt, leastOf, leastIn}
 use Rattle.search.specs.Walk.{improved, bestOf}
 use Rattle.search.proofs.LeastLaws.{Upto, Among, among-this, upto-this, best-is, least-of, least-only}
 use Rattle.search.proofs.GapLaws.{Gapped, Nearby, magnitude-number, tree-gaps, index-has, index-covers, index-held}
-use Rattle.search.proofs.SetSearch.{gap-number}
+use Rattle.boundary.proofs.GapLaws.{gap-number}
 use Rattle.nearest.specs.declared.Nearest.{Nearest}
 use Rattle.nearest.specs.declared.Nearest.the-variants.{Refused, None, At}
 use Rattle.nearest.specs.Nearest.{nearestIn}

@@ -1,16 +1,15 @@
 -- The node records of an index buffer. Assumes nothing.
 use mathlib.Core.Path.{_≡_, refl, sym, ap, _∙_}
 use mathlib.Core.Bool.{false}
-use mathlib.Core.List.{List, [], _∷_, _++_, flatMap}
-use Prim.Native.Nat.{ℕ, suc, _+_, _≤_, _<_}
-use native.Mathlib.Numerals.{add-one}
+use mathlib.Core.List.{List, [], _++_, flatMap}
+use Prim.Native.Nat.{ℕ, _+_, _≤_, _<_}
 use native.Mathlib.Omega.{arith}
 use lib.Dec.{ltb}
 use borrow.Author.Tests.{ltb-false, le-ltb}
-use lib.ListN.{length, getD, set, take, drop, length-replicate}
-use lib.Seq.{take-at, drop-cons, set-at, append-snoc, ext-getD}
+use lib.ListN.{length, getD, take, drop, length-replicate}
+use lib.Seq.{take-at, ext-getD}
 use lib.Ieee.{Float}
-use Rattle.lists.proofs.RunLaws.{run-last, length-run, run-at}
+use Rattle.lists.proofs.RunLaws.{length-run, run-at}
 use Rattle.lists.specs.Lists.{run, atFront}
 use Rattle.accept.specs.declared.Refusal.{Refusal}
 use Rattle.accept.specs.declared.Refusal.the-variants.{ShortBuffer}
@@ -36,22 +35,6 @@ use Rattle.records.specs.Records.{nodeIn, blankNode, blankNodes, nodesTe
 pub length-blank : length blankNodes ≡ 511
 unfolding blankNodes
 length-blank = length-replicate 511 blankNode
-
--- the run g 0, g 1, .. at the front of a list, one more
-pub front-more-run : {A : Type 0} (g : ℕ → A) (xs ys : List A) (i : ℕ) (x : A) → i < length xs → x ≡ g i → ys ≡ run g 0 i ++ drop i xs
-    → set ys i x ≡ run g 0 (i + 1) ++ drop (i + 1) xs
-front-more-run {A} g xs ys i x h ex e =
-    let z : 0 + i ≡ i = omega arith in
-    let last : run g 0 (suc i) ≡ run g 0 i ++ (x ∷ []) = run-last g 0 i ∙ ap (λ (a : A). run g 0 i ++ (a ∷ [])) (ap g z ∙ sym ex) in
-    rw add-one (ap (λ (zs : List A). set zs i x) (e ∙ ap (λ (zs : List A). run g 0 i ++ zs) (drop-cons xs i x h))
-    ∙ set-at (run g 0 i) (getD xs i x) (drop (suc i) xs) x i (length-run g 0 i)
-    ∙ sym (append-snoc (run g 0 i) x (drop (suc i) xs))
-    ∙ ap (λ (zs : List A). zs ++ drop (suc i) xs) (sym last))
-
--- and all of it
-pub front-run : {A : Type 0} (g : ℕ → A) (n : ℕ) (xs : List A) → run g 0 n ++ drop n xs ≡ atFront (run g 0 n) xs
-unfolding atFront
-front-run g n xs = rw (length-run g 0 n)
 
 read-node : (B : List Float) (K : List ℕ) (i : ℕ) (x : Node) → NodeIs B K [] i x → nodeIn B K i ≡ x
 unfolding nodeIn

@@ -4,37 +4,25 @@ use mathlib.Core.List.{List}
 use Prim.Native.Nat.{ℕ, _≤_, _<_}
 use native.Mathlib.Omega.{arith}
 use lib.ListN.{length}
-use lib.Ieee.{Float, binary64, sub, isNan}
-use Rattle.number.specs.Exact.{zeroᶠ}
-use Rattle.number.specs.Signs.{maxOf}
-use Rattle.number.proofs.OrderLaws.{right-not-nan}
-use Rattle.number.proofs.MagnitudeOrder.{le-max-right}
-use Rattle.number.proofs.HypotLaws.{hypot-not-nan}
+use lib.Ieee.{Float}
 use Rattle.boundary.specs.declared.Point.{Point}
-use Rattle.boundary.specs.declared.Bounds.{Bounds}
-use Rattle.boundary.specs.Boxes.{FieldPoint, gapAlong, gapOf}
+use Rattle.boundary.specs.Boxes.{FieldPoint}
 use Rattle.search.specs.declared.Entry.{Entry}
 use Rattle.search.specs.Heap.{Pushed}
 use Rattle.boundary.proofs.AroundLaws.{NotNan}
 use Rattle.index.specs.Buffer.{IndexBuffer}
-use Rattle.set.specs.Set.{Outline, Fitting, DoubleSet}
+use Rattle.set.specs.Set.{Outline, Fitting, DoubleSet, outlinesOf, Fit}
 use Rattle.search.specs.declared.Best.{Best}
 use Rattle.search.specs.Least.{magnitudeAt, leastIn}
 use Rattle.search.specs.Walk.{noneKept, Searched, entryFor}
 use Rattle.search.proofs.LeastLaws.{Upto, Among, least-of, least-only}
-use Rattle.search.proofs.GapLaws.{Nearby, set-magnitude, past-magnitude, magnitude-number, tree-gaps}
+use Rattle.search.proofs.GapLaws.{Nearby, set-magnitude, past-magnitude, magnitude-number, tree-gaps, index-searched}
 use Rattle.search.proofs.LookLaws.{none-clear}
 use Rattle.search.proofs.WaitLaws.{treeAt, read-stands, waits-of}
 use Rattle.search.proofs.SearchLaws.{ReadyNode, sizeOf, holdsOf, Searching, searching-first, search-least}
-
--- ---- a gap is a number
-along-number : (lo hi p : Float) → NotNan (gapAlong lo hi p)
-unfolding gapAlong
-along-number lo hi p = right-not-nan zeroᶠ (gapAlong lo hi p) (le-max-right (maxOf (sub binary64 lo p) (sub binary64 p hi)) zeroᶠ (unfold isNan in tt))
-
-pub gap-number : (b : Bounds) (p : Point) → NotNan (gapOf b p)
-unfolding gapOf
-gap-number b p = hypot-not-nan (gapAlong (b .min .x) (b .max .x) (p .x)) (gapAlong (b .min .y) (b .max .y) (p .y)) (along-number (b .min .x) (b .max .x) (p .x)) (along-number (b .min .y) (b .max .y) (p .y))
+use Rattle.set.specs.Answers.{Indexed}
+use Rattle.number.specs.Exact.{Doubles}
+use Rattle.set.proofs.SetLaws.{outlines-length, doubles-outlines}
 
 -- 511, the number of nodes that an index buffer has places for: no tree there is deeper
 abbrev pub most : ℕ
@@ -73,3 +61,10 @@ module _ (os : List Outline) (fit : Fitting os) (held : DoubleSet os) (p : Point
         least-only D (length os) best (leastIn os p)
         (search-least B most p D (length os) some (set-magnitude os fit held p P 0 some .finite) (past-magnitude os fit held p P) A u)
         (least-of D (length os) some (λ k l. magnitude-numbers k (omega arith)))
+
+-- the index of a set that a query has built is one that the search takes
+pub indexed-searched : (v : List Float) (cs : List ℕ) (B : IndexBuffer) → Fit v cs → Fitting (outlinesOf v cs) → Doubles v → 0 < length cs → Indexed (outlinesOf v cs) B → Searched (outlinesOf v cs) B
+indexed-searched v cs B fit fitting held some indexed =
+    let n = outlines-length v cs in
+    let s : 0 < length (outlinesOf v cs) = omega arith in
+    index-searched (outlinesOf v cs) fitting (doubles-outlines v cs fit held) s B (indexed s)

@@ -1,41 +1,17 @@
 -- The least number of a test that some member does not pass is the first test that any member does not pass, so one pass over the outlines says what the tests say one after the other. Assumes nothing.
 use mathlib.Core.Path.{_≡_, refl, ap, _∙_}
-use mathlib.Core.Bool.{Bool, true, false, cond, _||_}
-use mathlib.Core.List.{List, [], _∷_}
-use Prim.Native.Nat.{ℕ, _≤_, min}
+use mathlib.Core.Bool.{Bool, true, false, cond}
+use mathlib.Core.List.{List}
+use Prim.Native.Nat.{ℕ, _≤_}
 use native.Mathlib.Omega.{arith}
-use Rattle.lists.specs.Lists.{fold, any}
+use Rattle.lists.specs.Lists.{any}
+use Rattle.lists.proofs.FoldLaws.{least-first, least-none}
 use Rattle.accept.specs.declared.Refusal.the-variants.{NotFinite, OutsideField, EqualNeighbours, ZeroArea, NegativeArea}
 use Rattle.accept.specs.declared.Test.the-variants.{Passed}
 use Rattle.accept.specs.Refusals.{_refusing_when_, notFinite, outsideField, equalNeighbours, zeroArea, negativeArea, valuesTested}
 use Rattle.set.specs.Set.{Outline}
 use Rattle.set.specs.Tests.{outlinesTested}
 use Rattle.set.specs.OnePass.{firstFailed, leastFailed, testAt, rankOf}
-
--- test k, before those of which f gives the first: no number of these is less
-module _ {A : Type 0} (q : A → Bool) (f : A → ℕ) (k : ℕ) (above : (x : A) → k ≤ f x) where
-  two : (x : A) (b c : Bool) (m : ℕ) → k ≤ m → min (cond b k m) (cond c k (f x)) ≡ cond (b || c) k (min m (f x))
-  two x true true m h = omega arith
-  two x true false m h = let a = above x in omega arith
-  two x false true m h = omega arith
-  two x false false m h = refl
-
-  least-from : (b : Bool) (m : ℕ) (xs : List A) → k ≤ m → fold (λ n x. min n (cond (q x) k (f x))) (cond b k m) xs ≡ cond (fold (λ c x. c || q x) b xs) k (fold (λ n x. min n (f x)) m xs)
-  unfolding fold
-  least-from b m [] h = refl
-  least-from b m (x ∷ xs) h =
-      let a = above x in
-      ap (λ (n : ℕ). fold (λ n x. min n (cond (q x) k (f x))) n xs) (two x b (q x) m h) ∙ least-from (b || q x) (min m (f x)) xs (omega arith)
-
-  -- THE FIRST FAILING TEST: test k where some member does not pass it, and else what the later tests say
-  pub least-first : (m : ℕ) (xs : List A) → k ≤ m → fold (λ n x. min n (cond (q x) k (f x))) m xs ≡ cond (any q xs) k (fold (λ n x. min n (f x)) m xs)
-  unfolding any
-  least-first m xs h = least-from false m xs h
-
-least-none : {A : Type 0} (m : ℕ) (xs : List A) → fold (λ n x. min n m) m xs ≡ m
-unfolding fold
-least-none m [] = refl
-least-none m (x ∷ xs) = let e : min m m ≡ m = omega arith in rw e (least-none m xs)
 
 at-least : (b : Bool) (k n m : ℕ) → k ≤ n → k ≤ m → k ≤ cond b n m
 at-least true k n m h l = h

@@ -12,7 +12,7 @@ use lib.ListN.{length, getD, take, drop, length-take, length-drop, List·getD-eq
 use lib.Seq.{ext-getD, getD-take, getD-drop}
 use lib.Ieee.{Float, nan, binary64, fits}
 use Rattle.boundary.specs.declared.Bounds.{Bounds}
-use Rattle.boundary.specs.Boxes.{inField, FieldValue, FieldBox}
+use Rattle.boundary.specs.Boxes.{FieldValue, FieldBox}
 use Rattle.lists.specs.Lists.{run, any}
 use Rattle.boundary.specs.Outline.{count}
 use Rattle.lists.proofs.FoldLaws.{any-at, or-none, none-of}
@@ -30,6 +30,7 @@ use Rattle.number.specs.Exact.{Doubles}
 use Rattle.set.specs.Set.{Outline, startOf, outlineAt, outlinesOf, outlineIn, outlineBox, setBox, setBoxes, Fit, Fitting, DoubleSet}
 use Rattle.set.specs.Tests.{addsUp, anyMany, overSize, listsTested, outlinesTested, setTested}
 use Rattle.set.proofs.BoundsLaws.{InField, bounds-spanned, spanned-box, spanned-fits}
+use Rattle.boundary.proofs.FieldLaws.{number-in-field}
 
 -- ---- how many vertices stand before an outline
 module _ (cs : List ℕ) where
@@ -252,11 +253,11 @@ module _ (os : List Outline) where
     pub outline-in-field : (k : ℕ) → k < length os → outsideField (outlineIn os k) ≡ false
     outline-in-field k l = any-at outsideField [] os k l (fit .in-field)
 
-    number-in-field : (k : ℕ) → k < length os → (i : ℕ) → i < length (outlineIn os k) → InField (getD (outlineIn os k) i nan)
-    number-in-field k l i m = subst T (sym (not-false (inField (getD (outlineIn os k) i nan)) (any-at (λ x. not (inField x)) nan (outlineIn os k) i m (outline-in-field k l)))) tt
+    outline-number-in-field : (k : ℕ) → k < length os → (i : ℕ) → i < length (outlineIn os k) → InField (getD (outlineIn os k) i nan)
+    outline-number-in-field k l i m = subst T (sym (number-in-field (outlineIn os k) (outline-in-field k l) i m)) tt
 
     box-fits : (k : ℕ) → k < length os → boxFits (setBox os k) ≡ true
-    box-fits k l = spanned-fits InField (λ x f. f) (setBox os k) (bounds-spanned InField (λ x f. f) (outlineIn os k) (fit .some k l) (number-in-field k l))
+    box-fits k l = spanned-fits InField (λ x f. f) (setBox os k) (bounds-spanned InField (λ x f. f) (outlineIn os k) (fit .some k l) (outline-number-in-field k l))
 
     no-unfit : any (λ b. not (boxFits b)) (boxesOf (setBoxes os)) ≡ false
     unfolding boxesOf
@@ -281,7 +282,7 @@ module _ (os : List Outline) where
     -- ---- where the numbers are `f64`s
     module _ (held : DoubleSet os) (k : ℕ) (l : k < length os) where
       pub outline-numbers : (i : ℕ) → i < length (outlineIn os k) → FieldValue (getD (outlineIn os k) i nan)
-      outline-numbers i m = record { fits = held k l .each i m; in-field = number-in-field k l i m }
+      outline-numbers i m = record { fits = held k l .each i m; in-field = outline-number-in-field k l i m }
 
       pub box-field : FieldBox (setBox os k)
       box-field = spanned-box FieldValue (λ x f. f .in-field) (setBox os k) (bounds-spanned FieldValue (λ x f. f .in-field) (outlineIn os k) (fit .some k l) outline-numbers)

@@ -5,7 +5,7 @@ use Rattle.index.specs.Buffer.{IndexBuffer, buffer}
 use Rattle.set.proofs.SetLaws.{fit-within, doubles-outlines}
 use Rattle.set.proofs.AskLaws.{starts-put}
 use Rattle.set.proofs.FrameLaws.{set-indexed, set-cleared}
-use Rattle.nearest.proofs.FoundLaws.{indexed-searched}
+use Rattle.search.proofs.SetSearch.{indexed-searched}
 use Rattle.many.specs.Answers.{AnswerLists}
 use Rattle.many.specs.Work.{manyLeft, AllAsked}
 use Rattle.many.proofs.ManyLaws.{point-fits}

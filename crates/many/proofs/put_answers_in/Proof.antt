@@ -12,7 +12,8 @@ use Rattle.search.specs.declared.Best.{Best}
 use Rattle.nearest.specs.declared.NearestFields.{NearestFields}
 use Rattle.set.specs.Set.{outlinesOf}
 use Rattle.set.proofs.SetLaws.{outlines-length}
-use Rattle.many.proofs.ManyLaws.{answerAt, lists-written, answer-best}
+use Rattle.nearest.proofs.NearestLeast.{answer-best}
+use Rattle.many.proofs.ManyLaws.{answerAt, lists-written}
 use borrow.Author.Needs.{needs}
 use Rattle.many.proofs.put_answers_in.Statement.{statement}
 use Rattle.many.proofs.put_answers_in.Tie as tie

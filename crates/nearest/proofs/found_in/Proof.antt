@@ -7,7 +7,7 @@ use Rattle.search.specs.Walk.{Asked}
 use Rattle.set.proofs.SetLaws.{fit-within, doubles-outlines}
 use Rattle.set.proofs.AskLaws.{starts-put}
 use Rattle.set.proofs.FrameLaws.{set-indexed, set-cleared}
-use Rattle.nearest.proofs.FoundLaws.{indexed-searched}
+use Rattle.search.proofs.SetSearch.{indexed-searched}
 use borrow.Author.Needs.{needs}
 use Rattle.nearest.proofs.found_in.Statement.{statement}
 use Rattle.nearest.proofs.found_in.Tie as tie

@@ -1,5 +1,6 @@
 -- `records::listed` meets its contract. Assumes nothing.
-use Rattle.records.proofs.RecordLaws.{length-blank, front-more-run, front-run}
+use Rattle.lists.proofs.FrontLaws.{front-more-run, front-run}
+use Rattle.records.proofs.RecordLaws.{length-blank}
 use Rattle.records.specs.Records.{nodeIn, blankNodes}
 use Rattle.lists.specs.Lists.{run}
 use lib.ListN.{length, drop, length-set}

@@ -4,7 +4,8 @@ use borrow.Author.Needs.{needs}
 use denote.Ref.{now}
 use Rattle.boundary.specs.declared.Near.{Near}
 use Rattle.distance.specs.Nearest.{signedOf}
-use Rattle.distance.proofs.SearchLaws.{found-near, found-foot, edge-in-field}
+use Rattle.boundary.proofs.FieldLaws.{edge-in-field}
+use Rattle.distance.proofs.SearchLaws.{found-near, found-foot}
 use Rattle.distance.proofs.nearest.distance.Statement.{statement}
 use Rattle.distance.proofs.nearest.distance.Tie as tie
 

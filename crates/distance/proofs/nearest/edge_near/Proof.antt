@@ -4,7 +4,8 @@ use native.Mathlib.Omega.{arith}
 use borrow.Author.Needs.{needs}
 use denote.Ref.{now}
 use Rattle.boundary.specs.Outline.{count}
-use Rattle.distance.proofs.SearchLaws.{found-far, SearchedEdges, searched-first, searched-next, searched-end, edge-in-field}
+use Rattle.boundary.proofs.FieldLaws.{edge-in-field}
+use Rattle.distance.proofs.SearchLaws.{found-far, SearchedEdges, searched-first, searched-next, searched-end}
 use Rattle.distance.proofs.nearest.edge_near.Statement.{statement}
 use Rattle.distance.proofs.nearest.edge_near.Tie as tie
 

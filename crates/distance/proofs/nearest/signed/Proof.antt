@@ -3,7 +3,8 @@ use borrow.Author.Needs.{needs}
 use lib.Ieee.{ofBits}
 use Rattle.distance.specs.Nearest.{signedOf}
 use Rattle.boundary.proofs.KnownLaws.{owned-point, owned-edge}
-use Rattle.distance.proofs.ClearLaws.{foot-at-most, away-signed}
+use Rattle.boundary.proofs.BoxLaws.{foot-at-most}
+use Rattle.distance.proofs.ClearLaws.{away-signed}
 use Rattle.distance.proofs.nearest.signed.Statement.{statement}
 use Rattle.distance.proofs.nearest.signed.Tie as tie
 

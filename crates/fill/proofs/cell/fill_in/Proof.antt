@@ -9,7 +9,7 @@ use Rattle.lists.proofs.FrontLaws.{zeros-past}
 use Rattle.clip.proofs.LentLaws.{rest-kept}
 use Rattle.fill.specs.Fill.{fillOf}
 use Rattle.fill.specs.Answers.{halfOf, filled}
-use Rattle.fill.proofs.FillLaws.{more-room}
+use Rattle.clip.proofs.StageLaws.{more-room}
 use borrow.Author.Needs.{needs}
 use Rattle.fill.proofs.cell.fill_in.Statement.{statement}
 use Rattle.fill.proofs.cell.fill_in.Tie as tie

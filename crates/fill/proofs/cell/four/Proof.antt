@@ -2,7 +2,7 @@
 use mathlib.Core.Path.{_∙_}
 use mathlib.Core.Bool.{false}
 use Rattle.fill.specs.Fill.{longOf}
-use Rattle.fill.proofs.FillLaws.{begins}
+use Rattle.clip.proofs.StageLaws.{begins}
 use borrow.Author.Needs.{needs}
 use Rattle.fill.proofs.cell.four.Statement.{statement}
 use Rattle.fill.proofs.cell.four.Tie as tie
