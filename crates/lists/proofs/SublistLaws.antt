@@ -1,9 +1,7 @@
 -- A list with some members left out, in the same order. Assumes nothing.
-use mathlib.Core.Bool.{cond}
 use mathlib.Core.List.{List, [], _∷_, _++_}
 use Prim.Native.Nat.{ℕ, _+_, _≤_}
 use native.Mathlib.Omega.{arith}
-use lib.Dec.{eqb}
 use lib.ListN.{length}
 use Rattle.lists.specs.Lists.{times, In, Sublist}
 use Rattle.lists.specs.Lists.Sublist.{ended, stays, omitted}

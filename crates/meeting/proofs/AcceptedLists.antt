@@ -22,7 +22,7 @@ use Rattle.accept.specs.Answers.{Outcome}
 use Rattle.accept.proofs.TestLaws.{given-passed}
 use Rattle.boxes.specs.BoxLists.{boxCount, boxAt}
 use Rattle.tree.specs.Tree.{indexOf, itemsOf}
-use Rattle.index.specs.Buffer.{IndexBuffer, cleared}
+use Rattle.index.specs.Buffer.{IndexBuffer}
 use Rattle.index.specs.Answers.{boxesTested}
 use Rattle.index.proofs.IndexCovers.{items-once, passed-fits, nested}
 use Rattle.meeting.specs.Meeting.{SharedPoint, meetingOf, visitedOf}

@@ -5,7 +5,6 @@ use lib.Dec.{T}
 use lib.Ieee.{Float, lt, le}
 use lib.Ieee.Bits.{is-true}
 use Rattle.number.proofs.OrderLaws.{below-through, through-below, le-through, le-self, le-not-below, not-below, below-le, left-not-nan, right-not-nan}
-use Rattle.boundary.specs.declared.Point.{Point}
 use Rattle.boundary.specs.declared.Bounds.{Bounds}
 use Rattle.boundary.specs.Boxes.{Between, Around, boxFits, greater}
 use Rattle.boundary.proofs.FieldLaws.{fits-ordered}

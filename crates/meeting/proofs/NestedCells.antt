@@ -1,8 +1,7 @@
 -- Of two cells, one inside the other, over one tree: what the inner lists is what the outer lists with some leaves left out. Assumes nothing.
 use mathlib.Core.Path.{_≡_, refl, sym, _∙_}
 use mathlib.Core.Bool.{Bool, true, false, cond, true≢false}
-use mathlib.Core.List.{List, []}
-use Prim.Native.Nat.{ℕ}
+use mathlib.Core.List.{[]}
 use Rattle.boundary.specs.declared.Bounds.{Bounds}
 use Rattle.boundary.specs.Boxes.{Around}
 use Rattle.lists.specs.Lists.{Sublist}
