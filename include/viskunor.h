@@ -282,9 +282,9 @@ uint32_t vk_index_nodes(const double *boxes, size_t boxes_len,
  * Lists every item of each leaf whose box shares a point with the cell, the
  * first child's leaves first: every box that shares a point with the cell, and
  * others of the same leaves, none twice. A cell inside another gets the other's
- * list with some items left out, in the same order. The tree is built in the lent index buffer, whose
- * 511 nodes and 1,024 items hold only zeros after an accepted call; past them
- * it stays as it was.
+ * list with some items left out, in the same order. The tree is built in the
+ * lent index buffer, whose 511 nodes and 1,024 items hold only zeros after an
+ * accepted call; past them it stays as it was.
  *   refusals: 4, 11, 13. 13: the index buffer, or list_len below 1,024.
  *   list: gets the items' numbers; its places past those stay as they were.
  *   count: how many there are.
