@@ -10,6 +10,7 @@ use lib.IntN.{ℤ, pos, negℤ, _+ℤ_, _-ℤ_, _*ℤ_}
 use lib.Pow.{pow-pos}
 use lib.Ieee.{Float, ofBits, binary64, add, sub, mul, neg, lt, le, isNan, fits}
 use lib.Ieee.Fits.{mul-fits}
+use lib.Ieee.Scale.{finite}
 use Rattle.algebra.specs.Quote.{quote}
 use Rattle.algebra.specs.Lin as Lin
 use Rattle.algebra.specs.Lin.{le-from}
@@ -25,15 +26,16 @@ use Rattle.number.proofs.ExactLaws.{mul-result}
 use Rattle.number.proofs.Monotone.{sub-mono}
 use Rattle.number.proofs.OrderLaws.{is-order, le-self, le-through}
 use Rattle.number.proofs.MagnitudeOrder.{max-one-of, le-abs, neg-le-abs, abs-nonneg, le-max-left}
-use Rattle.number.proofs.Values.{held-not-nan, rounded-natAbs, is-rounds, rounds-not-nan}
+use Rattle.number.proofs.Values.{held-not-nan, rounded-natAbs, is-rounds, rounds-not-nan, add-not-nan, sub-not-nan, mul-not-nan, abs-finite}
 use Rattle.boundary.specs.declared.Point.{Point}
 use Rattle.boundary.specs.declared.Edge.{Edge}
 use Rattle.boundary.specs.declared.Bounds.{Bounds}
 use Rattle.boundary.specs.Line.{footOf}
-use Rattle.boundary.specs.Boxes.{PointOf, FieldValue, FieldPoint, FieldEdge, FieldBox, FiniteBox, Between, Inside, hull, edgeBox, leastMargin, nano, scaleOf, widenedBy, widenedOf, Around, gapAlong}
-use Rattle.boundary.proofs.FieldLaws.{field-held, field-is, field-box-finite, field-not-nan, is-field, field-abs, widened-finite}
+use Rattle.boundary.specs.Boxes.{PointOf, FieldValue, FieldPoint, FieldEdge, FieldBox, FiniteBox, Between, Inside, hull, edgeBox, leastMargin, nano, scaleOf, widenedBy, widenedOf, boxFits, Around, gapAlong}
+use Rattle.boundary.proofs.FieldLaws.{in-field-finite, field-held, field-is, field-box-finite, fits-in-field, field-not-nan, is-field, field-abs, widened-finite}
 use Rattle.number.proofs.Basics.{one-of}
 use Rattle.boundary.proofs.AlongLaws.{param-share, along-inside, ends-between, along-short, along-at-most}
+use Rattle.boundary.proofs.AroundLaws.{NotNan, NumberBox}
 
 -- ---- an edge's box
 
@@ -136,6 +138,29 @@ widened-around {b} B =
       right = more-above (B .max .x) w positive;
       bottom = less-below (B .min .y) w positive;
       top = more-above (B .max .y) w positive;
+    }
+
+grow-finite : (x y : Float) → T (finite x) → T (finite y) → T (finite (maxOf x (absOf y)))
+grow-finite x y p q = max-one-of (λ v. T (finite v)) {x = x} {y = absOf y} p (abs-finite y q)
+
+-- a box that passes test 11 has finite corners, and its widened box no NaN
+pub fits-wide : (b : Bounds) → T (boxFits b) → NumberBox (widenedOf b)
+unfolding widenedOf scaleOf
+fits-wide b h =
+    let F = fits-in-field b h in
+    let left = in-field-finite (b .min .x) (F .min .x) in
+    let bottom = in-field-finite (b .min .y) (F .min .y) in
+    let right = in-field-finite (b .max .x) (F .max .x) in
+    let top = in-field-finite (b .max .y) (F .max .y) in
+    let s₁ = maxOf one (absOf (b .min .x)) in
+    let s₂ = maxOf s₁ (absOf (b .min .y)) in
+    let s₃ = maxOf s₂ (absOf (b .max .x)) in
+    let scale : T (finite (scaleOf b)) = grow-finite s₃ (b .max .y) (grow-finite s₂ (b .max .x) (grow-finite s₁ (b .min .y) (grow-finite one (b .min .x) tt left) bottom) right) top in
+    let w = mul binary64 nano (scaleOf b) in
+    let m : NotNan w = mul-not-nan nano (scaleOf b) tt scale in
+    record {
+      min = record { x = sub-not-nan (b .min .x) w left m; y = sub-not-nan (b .min .y) w bottom m };
+      max = record { x = add-not-nan (b .max .x) w right m; y = add-not-nan (b .max .y) w top m };
     }
 
 -- THE FOOT: the nearest point of an edge lies in the widened box of every box that has both its ends

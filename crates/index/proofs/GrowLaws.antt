@@ -2,18 +2,18 @@
 use mathlib.Core.Path.{_≡_, refl, sym, ap, subst, _∙_}
 use mathlib.Core.Bool.{Bool, true, false, not, _||_, true≢false}
 use mathlib.Core.List.{List, [], _∷_, _++_, flatMap}
-use Prim.Native.Nat.{ℕ, zero, suc, _+_, _-_, _*_, _%_, _≤_}
+use Prim.Native.Nat.{ℕ, _+_, _-_, _*_, _%_, _≤_}
 use native.Mathlib.Nat.{sub-zero}
 use native.Mathlib.Omega.{arith}
 use lib.Dec.{leb, eqb, ltb}
 use lib.ListN.{length, take, drop, length-replicate}
 use lib.Seq.{length-take-le, take-at, drop-at, sets}
 use lib.Ieee.{Float}
-use borrow.Author.Tests.{le-leb, ltb-false, eqb-true}
+use borrow.Author.Tests.{ltb-false, eqb-true}
 use Rattle.boundary.specs.declared.Bounds.{Bounds}
-use Rattle.lists.specs.Lists.{Every, run, any, atFront, zeros}
+use Rattle.lists.specs.Lists.{run, any, atFront, zeros}
 use Rattle.sorts.specs.Sort.{sort, Sorted}
-use Rattle.sorts.proofs.PartLaws.{sort-sorted}
+use Rattle.sorts.proofs.PartLaws.{sort-sorted, run-ascends}
 use Rattle.accept.specs.declared.Refusal.the-variants.{TooMany, BadBox, ShortBuffer}
 use Rattle.accept.specs.declared.Refusal.{Refusal}
 use Rattle.accept.specs.declared.Test.{Test}
@@ -34,25 +34,14 @@ use Rattle.index.specs.declared.Built.the-variants.{Refused, Sized}
 use Rattle.lists.proofs.StoreLaws.{sets-front, flat-length}
 use Rattle.lists.proofs.RunLaws.{length-run}
 use Rattle.boxes.proofs.EntryLaws.{wide-held, centres-held}
-use Rattle.nodes.proofs.TreeLaws.{tree-leaf, length-items, nodes-suffice}
-use Rattle.nodes.proofs.LayoutLaws.{length-below, placed-front}
+use Rattle.tree.proofs.TreeLaws.{tree-leaf, length-items}
+use Rattle.nodes.proofs.LayoutLaws.{length-below, nodes-suffice, placed-front}
 use Rattle.lists.proofs.FrontLaws.{front-front}
 use Rattle.lists.proofs.FoldLaws.{or-none}
 
 -- the first k of a list that begins with F
 pub front-of : {A : Type 0} (s₀ s F : List A) (k : ℕ) → s ≡ sets s₀ 0 F → length F ≡ k → k ≤ length s₀ → take (k - 0) (drop 0 s) ≡ F
 front-of s₀ s F k e l h = rw (e, sets-front s₀ F (omega arith), sub-zero k) (take-at F (drop (length F) s₀) k l)
-
--- the front is written twice: the longer list stays
--- numbers from j on ascend
-pub run-ascends : (j k : ℕ) → Sorted leb (run (λ i. i) j k)
-unfolding Sorted Every run
-run-ascends j zero = tt
-run-ascends j (suc k) = (above (suc j) k (omega arith), run-ascends (suc j) k)
-  where
-    above : (i k : ℕ) → j ≤ i → Every (λ y. leb j y ≡ true) (run (λ i. i) i k)
-    above i zero h = tt
-    above i (suc k) h = (le-leb j i h, above (suc i) k (omega arith))
 
 pub numbers-ascend : (is₀ is₁ : List ℕ) (n : ℕ) → n ≤ length is₀ → is₁ ≡ run (λ i. i) 0 (length (take n is₀)) → Sorted leb (take n (is₁ ++ drop n is₀))
 numbers-ascend is₀ is₁ n h e =

@@ -1,109 +1,49 @@
--- What holds of the index of every list of boxes that passes the tests: 511 nodes suffice, each item stands in one leaf, and a node's box is around the widened boxes of all items below it. Assumes nothing.
-use mathlib.Core.Path.{_≡_, refl, _∙_}
-use mathlib.Core.Bool.{Bool, true, false, not, cond, _||_, true≢false}
+-- What holds of the index of every list of boxes that passes the tests: 511 nodes suffice, and a node's box is around the widened boxes of all items below it. Assumes nothing.
+use mathlib.Core.Path.{_≡_, refl}
+use mathlib.Core.Bool.{Bool, true, false, not, true≢false}
 use mathlib.Core.List.{List, _++_}
-use Prim.Native.Nat.{ℕ, zero, suc, _+_, _≤_, _<_}
+use Prim.Native.Nat.{ℕ, _+_, _≤_, _<_}
 use native.Mathlib.Omega.{arith}
-use lib.Dec.{T, leb, eqb, ltb}
+use lib.Dec.{T, leb}
 use lib.ListN.{length}
 use lib.Ieee.{Float}
-use borrow.Author.Tests.{ne-eqb, eqb-true, eqb-false, ltb-true, ltb-false}
 use Rattle.boundary.specs.declared.Point.{Point}
 use Rattle.boundary.specs.declared.Bounds.{Bounds}
-use Rattle.boundary.specs.Boxes.{Around}
-use Rattle.lists.specs.Lists.{run, fold, any, times, In}
+use Rattle.boundary.specs.Boxes.{Around, boxFits, emptyBox}
+use Rattle.boundary.proofs.AroundLaws.{NumberBox}
+use Rattle.boundary.proofs.BoxLaws.{fits-wide}
+use Rattle.lists.specs.Lists.{run, times, In}
+use Rattle.lists.proofs.RunLaws.{length-run, run-at}
+use Rattle.lists.proofs.FoldLaws.{any-at}
+use Rattle.lists.proofs.MemberLaws.{times-append, numbers-below}
 use Rattle.sorts.specs.Sort.{sort}
-use Rattle.lists.proofs.MemberLaws.{times-append}
 use Rattle.sorts.proofs.SortLaws.{times-sort}
 use Rattle.accept.specs.declared.Test.the-variants.{Passed}
 use Rattle.boxes.specs.BoxLists.{boxCount, boxAt, boxesOf, wideAt, centreOf}
 use Rattle.tree.specs.Tree.{Tree, leaf, inner, treeBox, hullOf, treeOf, indexOf, itemsOf, EachNode}
+use Rattle.tree.proofs.HullLaws.{hull-of-number, hull-of-around, hull-of-within}
+use Rattle.tree.proofs.TreeLaws.{left, right, times-halves, tree-induct}
 use Rattle.nodes.specs.Layout.{nodesOf}
-use Rattle.boundary.specs.Boxes.{boxFits}
-use Rattle.index.specs.Answers.{boxesTested}
-use Rattle.nodes.proofs.TreeLaws.{left, right, times-halves, tree-induct}
 use Rattle.nodes.proofs.LayoutLaws.{length-below}
-use Rattle.lists.proofs.RunLaws.{length-run}
+use Rattle.index.specs.Answers.{boxesTested}
 use Rattle.index.specs.Buffer.{IndexBuffer, holding, Stands, levels, Filled}
 use Rattle.index.proofs.ReadLaws.{holding-stands, tree-levels, tree-filled}
-use Rattle.lists.proofs.FoldLaws.{or-none}
 use Rattle.index.proofs.GrowLaws.{boxes-passed, boxes-fit, index-nodes}
-use Rattle.boundary.proofs.AroundLaws.{NumberBox}
-use Rattle.index.proofs.HullLaws.{fits-wide, hull-of-number, hull-of-around, hull-of-within}
 
--- ---- each item stands in one leaf
-module _ (W : ℕ → Bounds) (C : ℕ → Point) (i : ℕ) where
-  -- a tree's items are its list's, each as often
-  pub items-times : (is : List ℕ) → times i (itemsOf (treeOf W C is)) ≡ times i is
-  unfolding itemsOf
-  items-times is = tree-induct W C (λ is t. times i (itemsOf t) ≡ times i is) (λ is h. times-sort leb i is)
-      (λ is l r h p q. let a = times-append i (itemsOf l) (itemsOf r) in let b = times-halves C is i in omega arith) (length is) is (omega arith)
-
-module _ (i : ℕ) where
-  times-below : (j k : ℕ) → i < j → times i (run (λ n. n) j k) ≡ 0
-  unfolding run times
-  times-below j zero h = refl
-  times-below j (suc k) h = let n = times-below (suc j) k (omega arith) in rw (ne-eqb j i (λ e. omega arith)) (omega arith)
-
-  times-past : (j k : ℕ) → j + k ≤ i → times i (run (λ n. n) j k) ≡ 0
-  unfolding run times
-  times-past j zero h = refl
-  times-past j (suc k) h = let n = times-past (suc j) k (omega arith) in rw (ne-eqb j i (λ e. omega arith)) (omega arith)
-
-  times-within : (j k : ℕ) → j ≤ i → i < j + k → times i (run (λ n. n) j k) ≡ 1
-  unfolding run times
-  times-within j zero h l = absurd (omega arith)
-  times-within j (suc k) h l = go (eqb j i) refl (times-within (suc j) k)
-    where
-      lt-of : (j i : ℕ) → j ≤ i → (j ≡ i → ⊥) → suc j ≤ i
-      lt-of j i h n = omega arith
-
-      go : (b : Bool) → eqb j i ≡ b → (suc j ≤ i → i < suc j + k → times i (run (λ n. n) (suc j) k) ≡ 1) → cond b 1 0 + times i (run (λ n. n) (suc j) k) ≡ 1
-      go true e f = let z : j ≡ i = eqb-true j i e in let n = times-below (suc j) k (omega arith) in omega arith
-      go false e f = let n = f (lt-of j i h (eqb-false j i e)) (omega arith) in omega arith
-
--- the numbers up to k are below it
-pub numbers-below : (k i : ℕ) → In i (run (λ n. n) 0 k) → i < k
-numbers-below k i h = go (ltb i k) refl
-  where
-    go : (b : Bool) → ltb i k ≡ b → i < k
-    go true e = ltb-true i k e
-    go false e = let l = ltb-false i k e in let z = times-past i 0 k (omega arith) in absurd (omega arith)
-
+-- NODES: 511 suffice
 module _ (v : List Float) where
-  -- ITEMS: every number of a box occurs once in the items, and no other number does
-  pub items-once : (i : ℕ) → (i < boxCount v → times i (itemsOf (indexOf v)) ≡ 1) × (boxCount v ≤ i → times i (itemsOf (indexOf v)) ≡ 0)
-  unfolding indexOf
-  items-once i =
-      let e = items-times (wideAt v) (λ i. centreOf (wideAt v i)) i (run (λ n. n) 0 (boxCount v)) in
-      (λ h. e ∙ times-within i 0 (boxCount v) (omega arith) (omega arith), λ h. e ∙ times-past i 0 (boxCount v) (omega arith))
-
-  -- NODES: 511 suffice
   pub nodes-511 : boxesTested v ≡ Passed → length (nodesOf (indexOf v)) ≤ 511
   nodes-511 p = let b = boxes-passed v p in let s = b .0 in index-nodes v (omega arith)
 
 -- ---- the boxes of the nodes
--- where no member of a run passes a test, each does not
-none-each : {A : Type 0} (p : A → Bool) (g : ℕ → A) (i k : ℕ) (a : Bool) → fold (λ b x. b || p x) a (run g i k) ≡ false → (a ≡ false) × ((j : ℕ) → j < k → p (g (i + j)) ≡ false)
-unfolding fold run
-none-each p g i zero a e = (e, λ j h. absurd (omega arith))
-none-each p g i (suc k) a e =
-    let r = none-each p g (suc i) k (a || p (g i)) e in
-    let two = or-none a (p (g i)) (r .0) in
-    (two .0, λ j h. go j h (two .1) (r .1))
-  where
-    go : (j : ℕ) → j < suc k → p (g i) ≡ false → ((j : ℕ) → j < k → p (g (suc i + j)) ≡ false) → p (g (i + j)) ≡ false
-    go zero h f r = let z : i + 0 ≡ i = omega arith in rw z f
-    go (suc j) h f r = let z : i + suc j ≡ suc i + j = omega arith in rw z (r j (omega arith))
-
 -- each box of a list that passes the tests does, and its widened box has no NaN
 module _ (v : List Float) (passed : boxesTested v ≡ Passed) where
   pub passed-fits : (i : ℕ) → i < boxCount v → T (boxFits (boxAt v i))
-  unfolding boxesOf any
+  unfolding boxesOf
   passed-fits i h =
-      let e = none-each (λ b. not (boxFits b)) (boxAt v) 0 (boxCount v) false (boxes-fit v passed) .1 i h in
+      let e = any-at (λ b. not (boxFits b)) emptyBox (boxesOf v) i (rw (length-run (boxAt v) 0 (boxCount v)) h) (boxes-fit v passed) in
       let z : 0 + i ≡ i = omega arith in
-      holds (boxFits (boxAt v i)) (rw z at e)
+      holds (boxFits (boxAt v i)) (rw (run-at (boxAt v) 0 (boxCount v) i emptyBox h, z) at e)
     where
       holds : (b : Bool) → not b ≡ false → T b
       holds true e = tt

@@ -19,7 +19,7 @@ use Rattle.nodes.specs.Layout.{extra, nodeOf, nodesBelow, nodesOf, cornersOf, l
 use Rattle.index.specs.Buffer.{IndexBuffer, holding, Stands, levels, Filled}
 use Rattle.lists.proofs.StoreLaws.{flat-at}
 use Rattle.lists.proofs.RunLaws.{length-run, run-at}
-use Rattle.nodes.proofs.TreeLaws.{left, right, length-left, length-right, tree-induct}
+use Rattle.tree.proofs.TreeLaws.{left, right, length-left, length-right, tree-induct}
 use Rattle.nodes.proofs.LayoutLaws.{length-below}
 
 abbrev pub boxOf : Node → Bounds

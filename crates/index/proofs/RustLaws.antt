@@ -30,7 +30,7 @@ use Rattle.accept.specs.Answers.{Outcome}
 use Rattle.accept.proofs.TestLaws.{refusing-passed, given-passed}
 use Rattle.sorts.specs.Sort.{sort, Selected}
 use Rattle.sorts.specs.Keys.{precedes}
-use Rattle.lists.proofs.MemberLaws.{times-append}
+use Rattle.lists.proofs.MemberLaws.{times-append, numbers-below}
 use Rattle.sorts.proofs.SortLaws.{length-sort}
 use Rattle.sorts.proofs.SelectLaws.{selected-first, selected-rest, sort-selected}
 use Rattle.boxes.specs.BoxLists.{boxCount, boxAt, wideAt, centreOf}
@@ -41,9 +41,9 @@ use Rattle.index.specs.declared.Built.the-variants.{Refused, Sized}
 use Rattle.index.specs.Buffer.{IndexBuffer, shortBuffer, holding}
 use Rattle.index.specs.Answers.{boxesTested, buildTested, buildOutcome}
 use Rattle.index.specs.Rust.{Builds, few, many, BuiltTree, BuildsIndex, BuiltAsRust, ascended, SameTree, same-leaf, same-inner}
-use Rattle.nodes.proofs.TreeLaws.{left, right, tree-leaf, tree-split, tree-sorted}
-use Rattle.index.proofs.AnyOrder.{hull-same, axis-same}
-use Rattle.index.proofs.IndexCovers.{passed-fits, listed-number, numbers-below}
+use Rattle.tree.proofs.TreeLaws.{left, right, tree-leaf, tree-split, tree-sorted}
+use Rattle.tree.proofs.AnyOrder.{hull-same, axis-same}
+use Rattle.index.proofs.IndexCovers.{passed-fits, listed-number}
 
 -- the members of a part are members of the list
 part-members : (m : ℕ) (is ys : List ℕ) → ((i : ℕ) → times i ys ≡ times i is) → (i : ℕ) → (In i (take m ys) → In i is) × (In i (drop m ys) → In i is)

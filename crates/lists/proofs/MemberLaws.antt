@@ -2,11 +2,11 @@
 use mathlib.Core.Path.{_≡_, refl, ap, subst}
 use mathlib.Core.Bool.{Bool, true, false, cond, _||_}
 use mathlib.Core.List.{List, [], _∷_, _++_, reverse, reverseAux}
-use Prim.Native.Nat.{ℕ, zero, suc, _+_, _<_}
+use Prim.Native.Nat.{ℕ, zero, suc, _+_, _≤_, _<_}
 use native.Mathlib.Omega.{arith}
-use lib.Dec.{eqb}
+use lib.Dec.{eqb, ltb}
 use lib.ListN.{length, take, drop, take-append-drop}
-use borrow.Author.Tests.{eq-eqb, eqb-true}
+use borrow.Author.Tests.{eq-eqb, ne-eqb, eqb-true, eqb-false, ltb-true, ltb-false}
 use Rattle.lists.specs.Lists.{run, fold, any, times, In, Every, Each}
 use Rattle.lists.specs.Lists.Each.{none, more}
 
@@ -68,6 +68,38 @@ times-append i (x ∷ xs) ys = let e = times-append i xs ys in omega arith
 
 pub times-parts : (i m : ℕ) (xs : List ℕ) → times i (take m xs) + times i (drop m xs) ≡ times i xs
 times-parts i m xs = let e = times-append i (take m xs) (drop m xs) in let f = ap (times i) (take-append-drop m xs) in omega arith
+
+-- in the numbers j, j + 1, ..: k of them
+module _ (i : ℕ) where
+  times-below : (j k : ℕ) → i < j → times i (run (λ n. n) j k) ≡ 0
+  unfolding run times
+  times-below j zero h = refl
+  times-below j (suc k) h = let n = times-below (suc j) k (omega arith) in rw (ne-eqb j i (λ e. omega arith)) (omega arith)
+
+  pub times-past : (j k : ℕ) → j + k ≤ i → times i (run (λ n. n) j k) ≡ 0
+  unfolding run times
+  times-past j zero h = refl
+  times-past j (suc k) h = let n = times-past (suc j) k (omega arith) in rw (ne-eqb j i (λ e. omega arith)) (omega arith)
+
+  pub times-within : (j k : ℕ) → j ≤ i → i < j + k → times i (run (λ n. n) j k) ≡ 1
+  unfolding run times
+  times-within j zero h l = absurd (omega arith)
+  times-within j (suc k) h l = go (eqb j i) refl (times-within (suc j) k)
+    where
+      lt-of : (j i : ℕ) → j ≤ i → (j ≡ i → ⊥) → suc j ≤ i
+      lt-of j i h n = omega arith
+
+      go : (b : Bool) → eqb j i ≡ b → (suc j ≤ i → i < suc j + k → times i (run (λ n. n) (suc j) k) ≡ 1) → cond b 1 0 + times i (run (λ n. n) (suc j) k) ≡ 1
+      go true e f = let z : j ≡ i = eqb-true j i e in let n = times-below (suc j) k (omega arith) in omega arith
+      go false e f = let n = f (lt-of j i h (eqb-false j i e)) (omega arith) in omega arith
+
+-- the numbers up to k are below it
+pub numbers-below : (k i : ℕ) → In i (run (λ n. n) 0 k) → i < k
+numbers-below k i h = go (ltb i k) refl
+  where
+    go : (b : Bool) → ltb i k ≡ b → i < k
+    go true e = ltb-true i k e
+    go false e = let l = ltb-false i k e in let z = times-past i 0 k (omega arith) in absurd (omega arith)
 
 -- ---- members
 -- what holds of the first and of each of the rest holds of each

@@ -22,9 +22,10 @@ use Rattle.accept.specs.Answers.{Outcome}
 use Rattle.accept.proofs.TestLaws.{given-passed}
 use Rattle.boxes.specs.BoxLists.{boxCount, boxAt}
 use Rattle.tree.specs.Tree.{indexOf, itemsOf}
+use Rattle.tree.proofs.TreeLaws.{items-once}
 use Rattle.index.specs.Buffer.{IndexBuffer}
 use Rattle.index.specs.Answers.{boxesTested}
-use Rattle.index.proofs.IndexCovers.{items-once, passed-fits, nested}
+use Rattle.index.proofs.IndexCovers.{passed-fits, nested}
 use Rattle.meeting.specs.Meeting.{SharedPoint, meetingOf, visitedOf}
 use Rattle.meeting.specs.Answers.{MeetingLent, meetingTested, listing, meetingOutcome, meetingCall, listedBy}
 use Rattle.meeting.proofs.ApartLaws.{shared-not-apart}

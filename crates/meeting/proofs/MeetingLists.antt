@@ -14,8 +14,9 @@ use Rattle.lists.specs.Lists.{times, In}
 use Rattle.accept.specs.declared.Test.the-variants.{Passed}
 use Rattle.boxes.specs.BoxLists.{boxCount, boxAt, wideAt}
 use Rattle.tree.specs.Tree.{Tree, leaf, inner, indexOf, itemsOf, EachNode}
+use Rattle.tree.proofs.TreeLaws.{items-once}
 use Rattle.index.specs.Answers.{boxesTested}
-use Rattle.index.proofs.IndexCovers.{items-once, node-boxes}
+use Rattle.index.proofs.IndexCovers.{node-boxes}
 use Rattle.meeting.specs.Meeting.{apart, meetingOf}
 use Rattle.meeting.proofs.ApartLaws.{apart-inside}
 

@@ -5,20 +5,17 @@ use Prim.Native.Nat.{ℕ, _+_, _-_, _*_, _/_, _≤_, _<_}
 use native.Mathlib.Omega.{arith}
 use lib.Dec.{leb}
 use lib.ListN.{length, take, drop, length-append, length-drop}
-use lib.Seq.{sets, length-take-le, take-at, drop-at}
+use lib.Seq.{sets, length-take-le}
 use lib.Ieee.{Float}
-use borrow.Author.Tests.{lt-ltb, le-ltb}
 use Rattle.boundary.specs.declared.Point.{Point}
 use Rattle.boundary.specs.declared.Bounds.{Bounds}
-use Rattle.sorts.specs.Sort.{sort, Sorted, halves}
-use Rattle.sorts.specs.Keys.{precedes}
 use Rattle.sorts.proofs.Lists.{rest-of, whole-of}
 use Rattle.sorts.proofs.SortLaws.{length-sort}
-use Rattle.sorts.proofs.PartLaws.{ascending}
 use Rattle.boxes.specs.BoxLists.{boxNumbers}
-use Rattle.tree.specs.Tree.{inner, hullOf, alongY, centreAlong, ordered, arranged, treeOf, itemsOf}
+use Rattle.tree.specs.Tree.{inner, hullOf, arranged, treeOf, itemsOf}
+use Rattle.tree.proofs.TreeLaws.{left, right, length-left, tree-leaf, tree-split, tree-sorted, length-items}
+use Rattle.tree.proofs.ArrangedLaws.{arranged-leaf, first-half, second-half, length-arranged}
 use Rattle.nodes.specs.Layout.{extra, nodeOf, nodesBelow, cornersOf, linksOf, placed, Settled, Grown}
-use Rattle.nodes.proofs.TreeLaws.{left, right, length-left, length-right, tree-leaf, tree-split, tree-sorted, length-items}
 use Rattle.nodes.proofs.LayoutLaws.{placed-parts}
 
 -- ---- a list whose first m are Y and whose rest becomes Z
@@ -45,47 +42,12 @@ module _ (W : ℕ → Bounds) (P : ℕ → Point) (is : List ℕ) (at node next 
   unfolding nodeOf
   settled-inner C′ L′ h ec el = rw (tree-split W P is h) (record { corners = ec; links = el })
 
-  pub arranged-leaf : length is ≤ 4 → arranged P is ≡ sort leb is
-  unfolding arranged
-  arranged-leaf h = rw (le-ltb 4 (length is) h)
-
-  pub arranged-inner : 4 < length is → arranged P is ≡ halves (precedes (centreAlong (alongY P is) P)) (length is / 2) is
-  unfolding arranged
-  arranged-inner h = rw (lt-ltb 4 (length is) h)
-
-  -- the halves of what is split, each ascending
-  module _ (is₁ : List ℕ) (e : is₁ ≡ arranged P is) (h : 4 < length is) where
-    arranged-parts : is₁ ≡ sort leb (left P is) ++ sort leb (right P is)
-    unfolding halves ordered
-    arranged-parts = e ∙ arranged-inner h
-
-    first-long : length (sort leb (left P is)) ≡ length is / 2
-    first-long = length-sort leb (left P is) ∙ length-left P is
-
-    pub first-half : take (length is / 2) is₁ ≡ sort leb (left P is)
-    first-half = rw arranged-parts (take-at (sort leb (left P is)) (sort leb (right P is)) (length is / 2) first-long)
-
-    pub second-half : drop (length is / 2) is₁ ≡ sort leb (right P is)
-    second-half = rw arranged-parts (drop-at (sort leb (left P is)) (sort leb (right P is)) (length is / 2) first-long)
-
-    pub length-arranged : length is₁ ≡ length is
-    length-arranged = ap length arranged-parts ∙ length-append (sort leb (left P is)) (sort leb (right P is)) ∙ (let a = first-long in let b = length-sort leb (right P is) in let c = length-right P is in omega arith)
-
-    pub first-ascends : Sorted leb (take (length is / 2) is₁)
-    first-ascends = rw first-half (ascending (left P is))
-
-    pub second-ascends : (Y : List ℕ) → length Y ≡ length (take (length is / 2) is₁) → Sorted leb (take (length (Y ++ drop (length is / 2) is₁) - length is / 2) (drop (length is / 2) (Y ++ drop (length is / 2) is₁)))
-    second-ascends Y y =
-        let k = length-arranged in
-        let a : length Y ≡ length is / 2 = y ∙ length-take-le (length is / 2) is₁ (omega arith) in
-        rw (rest-of is₁ Y (length is / 2) a (omega arith), second-half) (ascending (right P is))
-
   module _ (C₁ : List Float) (L₁ : List ℕ) (is₁ : List ℕ) (s : Settled (treeOf W P is) at node next C L C₁ L₁) (e : is₁ ≡ arranged P is) where
     pub grown-leaf : length is ≤ 4 → Grown (treeOf W P is) at node next C L next is₁ C₁ L₁
     unfolding nodeOf placed nodesBelow flatMap extra itemsOf
     grown-leaf h =
         let t = tree-leaf W P (length is) is h in
-        rw t (record { free = omega arith; items = e ∙ arranged-leaf h; corners = rw t at (s .corners); links = rw t at (s .links) })
+        rw t (record { free = omega arith; items = e ∙ arranged-leaf P is h; corners = rw t at (s .corners); links = rw t at (s .links) })
 
     -- the first half's tree, then the second's
     pub grown-inner : (free r : ℕ) (Y Z : List ℕ) (C₂ C₃ : List Float) (L₂ L₃ : List ℕ) → 4 < length is → length Y ≡ length (take (length is / 2) is₁)
@@ -96,13 +58,13 @@ module _ (W : ℕ → Bounds) (P : ℕ → Point) (is : List ℕ) (at node next 
     unfolding extra itemsOf
     grown-inner free r Y Z C₂ C₃ L₂ L₃ h same first second =
         let m = length is / 2 in
-        let f₁ = first-half is₁ e h in
-        let f₂ = second-half is₁ e h in
+        let f₁ = first-half P is is₁ e h in
+        let f₂ = second-half P is is₁ e h in
         let l = treeOf W P (left P is) in
         let k = treeOf W P (right P is) in
         let b = hullOf W is in
         let t : treeOf W P is ≡ inner b l k = tree-split W P is h in
-        let n : length is₁ ≡ length is = length-arranged is₁ e h in
+        let n : length is₁ ≡ length is = length-arranged P is is₁ e h in
         let le : m ≤ length is₁ = omega arith in
         let a : length Y ≡ m = same ∙ length-take-le m is₁ le in
         let one : Grown l at next (next + 2) C₁ L₁ free Y C₂ L₂ = rw (f₁, tree-sorted W P leb (left P is)) at first in

@@ -1,19 +1,23 @@
--- Where a tree's nodes are put: those of an inner tree are its own, then those of the first child, then those of the second. Assumes nothing.
+-- How many nodes a tree has: 511 do for 1,024 items. And where they are put: those of an inner tree are its own, then those of the first child, then those of the second. Assumes nothing.
 use mathlib.Core.Path.{_≡_, refl, sym, ap, _∙_}
 use mathlib.Core.List.{List, _++_, flatMap}
-use Prim.Native.Nat.{ℕ, _+_, _*_, _≤_}
-use native.Mathlib.Nat.{mul-add, mul-one, le-of-eq}
+use Prim.Native.Nat.{ℕ, zero, suc, _+_, _*_, _^_, _≤_, _<_}
+use native.Mathlib.Nat.{mul-add, mul-one, le-of-eq, pow-suc}
 use native.Mathlib.Omega.{arith}
 use lib.ListN.{length, length-append}
+use lib.Pow.{pow-pos}
 use lib.Seq.{sets}
+use Rattle.boundary.specs.declared.Point.{Point}
 use Rattle.boundary.specs.declared.Bounds.{Bounds}
 use Rattle.lists.specs.Lists.{atFront}
 use Rattle.nodes.specs.declared.Node.{Node}
-use Rattle.tree.specs.Tree.{Tree, leaf, inner, itemsOf}
+use Rattle.tree.specs.Tree.{Tree, leaf, inner, hullOf, treeOf, itemsOf}
+use Rattle.tree.proofs.TreeLaws.{left, right, length-left, length-right, tree-induct}
 use Rattle.nodes.specs.Layout.{extra, nodeOf, nodesBelow, nodesOf, placed}
 use Rattle.lists.proofs.StoreLaws.{sets-append, sets-swap, sets-front, flat-length, flat-append}
 
--- there are as many nodes below as are counted
+-- ---- how many there are
+-- as many nodes below as are counted
 pub length-below : (t : Tree) (at next : ℕ) → length (nodesBelow t at next) ≡ extra t
 unfolding nodesBelow extra
 length-below (leaf b is) at next = refl
@@ -23,6 +27,34 @@ length-below (inner b l r) at next =
     let s = length-append (nodesBelow l at (next + 2)) (nodesBelow r (at + length (itemsOf l)) (next + 2 + extra l)) in
     omega arith
 
+module _ (W : ℕ → Bounds) (C : ℕ → Point) where
+  -- the nodes below the root are fewer than twice the items
+  pub extra-below : (is : List ℕ) → 0 < length is → extra (treeOf W C is) + 2 ≤ 2 * length is
+  unfolding extra
+  extra-below is = tree-induct W C (λ is t. 0 < length is → extra t + 2 ≤ 2 * length is) (λ is h z. omega arith)
+      (λ is l r h p q z. let a = length-left C is in let b = length-right C is in let u = p (omega arith) in let v = q (omega arith) in omega arith) (length is) is (omega arith)
+
+  pub extra-bound : (k : ℕ) (is : List ℕ) → length is ≤ 4 * 2 ^ k → extra (treeOf W C is) + 2 ≤ 2 * 2 ^ k
+  unfolding extra
+  extra-bound k is = tree-induct W C (λ is t. (k : ℕ) → length is ≤ 4 * 2 ^ k → extra t + 2 ≤ 2 * 2 ^ k) (λ is h k l. let p = pow-pos k in omega arith) step (length is) is (omega arith) k
+    where
+      step : (is : List ℕ) (l r : Tree) → 4 < length is → ((k : ℕ) → length (left C is) ≤ 4 * 2 ^ k → extra l + 2 ≤ 2 * 2 ^ k) → ((k : ℕ) → length (right C is) ≤ 4 * 2 ^ k → extra r + 2 ≤ 2 * 2 ^ k)
+          → (k : ℕ) → length is ≤ 4 * 2 ^ k → extra (inner (hullOf W is) l r) + 2 ≤ 2 * 2 ^ k
+      step is l r h p q zero n = absurd (omega arith)
+      step is l r h p q (suc k) n =
+          let e : 2 ^ suc k ≡ 2 ^ k * 2 = pow-suc 2 k in
+          let a = length-left C is in
+          let b = length-right C is in
+          let u = p k (omega arith) in
+          let v = q k (omega arith) in
+          omega arith
+
+  -- 511 NODES suffice for 1,024 boxes
+  pub nodes-suffice : (is : List ℕ) → length is ≤ 1024 → length (nodesOf (treeOf W C is)) ≤ 511
+  unfolding nodesOf
+  nodes-suffice is h = let e = extra-bound 8 is h in let l = length-below (treeOf W C is) 0 1 in omega arith
+
+-- ---- where they are put
 -- f gives w places for each node
 module _ {A : Type 0} (f : Node → List A) (w : ℕ) (size : (n : Node) → length (f n) ≡ w) where
   -- four runs one after the other, the second and the third exchanged

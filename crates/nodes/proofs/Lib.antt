@@ -1,8 +1,6 @@
 -- Laws of the build.
 
--- One split of the tree, and how many items and nodes it has.
-pub mod TreeLaws
--- Where its nodes are put.
+-- How many nodes a tree has, and where they are put.
 pub mod LayoutLaws
 -- What one call of the build leaves.
 pub mod BuildLaws

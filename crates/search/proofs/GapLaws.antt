@@ -19,12 +19,12 @@ use Rattle.lists.proofs.MemberLaws.{times-append}
 use Rattle.boxes.specs.BoxLists.{boxCount, wideAt, centreOf}
 use Rattle.lists.proofs.RunLaws.{length-run}
 use Rattle.tree.specs.Tree.{Tree, leaf, inner, hullOf, treeOf, indexOf, itemsOf, EachNode}
+use Rattle.tree.proofs.HullLaws.{hull-of-finite}
+use Rattle.tree.proofs.TreeLaws.{left, right, length-left, length-right, times-halves, tree-induct, items-times, items-once}
 use Rattle.nodes.specs.Layout.{nodesOf}
 use Rattle.nodes.proofs.LayoutLaws.{length-below}
-use Rattle.nodes.proofs.TreeLaws.{left, right, length-left, length-right, times-halves, tree-induct}
 use Rattle.index.specs.Buffer.{IndexBuffer, Stands}
-use Rattle.index.proofs.HullLaws.{hull-of-finite}
-use Rattle.index.proofs.IndexCovers.{items-times, items-once, node-boxes, nodes-511}
+use Rattle.index.proofs.IndexCovers.{node-boxes, nodes-511}
 use Rattle.set.specs.Set.{Outline, outlineIn, setBox, setBoxes, Fitting, DoubleSet}
 use Rattle.set.proofs.SetLaws.{outline-past, outline-numbers, boxes-length, box-at-set, boxes-tested, box-field}
 use Rattle.search.specs.Least.{magnitudeAt}

@@ -2,7 +2,7 @@
 use mathlib.Core.Path.{_≡_, refl, sym, ap, ap₂, _∙_}
 use mathlib.Core.Bool.{Bool, true, false, not, cond, false≢true}
 use mathlib.Core.List.{List, [], _∷_, _++_, append-nil}
-use Prim.Native.Nat.{ℕ, suc, _+_, _-_, _≤_, _<_}
+use Prim.Native.Nat.{ℕ, zero, suc, _+_, _-_, _≤_, _<_}
 use native.Mathlib.Nat.{sub-zero}
 use native.Mathlib.Numerals.{add-one}
 use native.Mathlib.Omega.{arith}
@@ -11,7 +11,7 @@ use lib.ListN.{length, getD, set, take, drop, length-set, length-drop, drop-of-l
 use lib.Seq.{drop-cons, take-suc, take-all, take-at, drop-at, drop-drop, drop-set-lt, take-set-le, take-suc-set, length-take-le}
 use lib.Ieee.{Float}
 use borrow.Author.Tests.{le-leb, leb-true, leb-false}
-use Rattle.lists.specs.Lists.{Every}
+use Rattle.lists.specs.Lists.{Every, run}
 use Rattle.lists.proofs.MemberLaws.{each-all}
 use Rattle.sorts.specs.Sort.{insert, sort, keep, others, Dealt, Sorted, halves}
 use Rattle.sorts.specs.Keys.{precedesBy, precedes, ahead, aheadBit}
@@ -86,6 +86,16 @@ module _ (le : ℕ → ℕ → Bool) where
       go : (b : Bool) → Sorted le (keep p xs) → Sorted le (cond b (x ∷ keep p xs) (keep p xs))
       go true f = (each-keep (λ y. le x y ≡ true) p xs (s .0), f)
       go false f = f
+
+-- numbers from j on ascend
+pub run-ascends : (j k : ℕ) → Sorted leb (run (λ i. i) j k)
+unfolding Sorted Every run
+run-ascends j zero = tt
+run-ascends j (suc k) = (above (suc j) k (omega arith), run-ascends (suc j) k)
+  where
+    above : (i k : ℕ) → j ≤ i → Every (λ y. leb j y ≡ true) (run (λ i. i) i k)
+    above i zero h = tt
+    above i (suc k) h = (le-leb j i h, above (suc i) k (omega arith))
 
 -- ---- dealing: those that pass to one list, the others to the other
 keep-last : (p : ℕ → Bool) (xs : List ℕ) (y : ℕ) → keep p (xs ++ (y ∷ [])) ≡ keep p xs ++ cond (p y) (y ∷ []) []

@@ -1,6 +1,7 @@
 -- `nodes::build` meets its contract. The measure is the number of items. Assumes nothing.
-use Rattle.nodes.proofs.BuildLaws.{rest-length, whole-length, first-ascends, second-ascends, grown-leaf, grown-inner}
-use Rattle.nodes.proofs.TreeLaws.{extra-below}
+use Rattle.tree.proofs.ArrangedLaws.{first-ascends, second-ascends}
+use Rattle.nodes.proofs.LayoutLaws.{extra-below}
+use Rattle.nodes.proofs.BuildLaws.{rest-length, whole-length, grown-leaf, grown-inner}
 use Rattle.boxes.specs.BoxLists.{boxAt, pointIn}
 use lib.ListN.{take}
 use lib.Seq.{length-take-le}
@@ -123,7 +124,7 @@ build-build-requires t c κs =
     let R = c .before .before .before .before .before .before .before .before .before .before .before .before .before .before .before .before .before .before .before .before .before .before .before .before .before .pre .1 .1 in
     let h = c .before .before .before .before .if1 .left in
     let l = length-take-le (length is / 2) S (omega arith) in
-    (omega arith, (first-ascends (boxAt (a .wide .now)) (pointIn (a .xs .now) (a .ys .now)) is (a .at) (a .node) (a .next) (a .corners .now) (a .links .now) S (c .before .before .before .before .before .before .before .before .before .before .before .before .before .settle .ensures .1) h, record { room = omega arith; items = omega arith; own = omega arith; free = omega arith }))
+    (omega arith, (first-ascends (pointIn (a .xs .now) (a .ys .now)) is S (c .before .before .before .before .before .before .before .before .before .before .before .before .before .settle .ensures .1) h, record { room = omega arith; items = omega arith; own = omega arith; free = omega arith }))
 
 build-mul-build : (t : ℕ) → build-lts.Need-mul-build (
   settle-reads.Asked,
@@ -199,7 +200,7 @@ build-build-requires-2 t c κs =
     let z = rest-length S Y (length is / 2) (omega arith) y in
     let f = c .before .before .before .before .before .before .before .before .before .before .before .before .build .ensures .free in
     let x = extra-below (boxAt (a .wide .now)) (pointIn (a .xs .now) (a .ys .now)) (take (length is / 2) S) (omega arith) in
-    (omega arith, (second-ascends (boxAt (a .wide .now)) (pointIn (a .xs .now) (a .ys .now)) is (a .at) (a .node) (a .next) (a .corners .now) (a .links .now) S (c .before .before .before .before .before .before .before .before .before .before .before .before .before .before .before .before .before .before .before .before .before .before .before .before .before .before .settle .ensures .1) h Y y, record { room = omega arith; items = omega arith; own = omega arith; free = omega arith }))
+    (omega arith, (second-ascends (pointIn (a .xs .now) (a .ys .now)) is S (c .before .before .before .before .before .before .before .before .before .before .before .before .before .before .before .before .before .before .before .before .before .before .before .before .before .before .settle .ensures .1) h Y y, record { room = omega arith; items = omega arith; own = omega arith; free = omega arith }))
 
 build-same-length-5 : (t : ℕ) → build-lts.Need-same-length-5 (
   settle-reads.Asked,

@@ -1,5 +1,6 @@
 -- `nodes::settle` meets its contract. Assumes nothing.
-use Rattle.nodes.proofs.BuildLaws.{settled-leaf, settled-inner, arranged-leaf, arranged-inner}
+use Rattle.tree.proofs.ArrangedLaws.{arranged-leaf, arranged-inner}
+use Rattle.nodes.proofs.BuildLaws.{settled-leaf, settled-inner}
 use Rattle.boxes.specs.BoxLists.{boxAt, pointIn}
 use Rattle.sorts.proofs.PartLaws.{sort-sorted}
 use lib.Dec.{leb}
@@ -56,7 +57,7 @@ returns c =
     let P = pointIn (a .xs .now) (a .ys .now) in
     let h = c .before .before .before .before .before .before .before .before .before .before .if1 .taken in (
       settled-leaf W P (a .list .now) (a .at) (a .node) (a .next) (a .corners .now) (a .links .now) _ _ h (rw (c .before .before .before .before .before .before .put-box .ensures, c .before .before .before .before .before .before .before .hull-of .ensures)) (c .before .before .put-links .ensures),
-      sym (arranged-leaf W P (a .list .now) (a .at) (a .node) (a .next) (a .corners .now) (a .links .now) h ∙ sort-sorted leb (a .list .now) (c .before .before .before .before .before .before .before .before .before .before .before .before .before .before .before .before .before .before .pre .0)),
+      sym (arranged-leaf P (a .list .now) h ∙ sort-sorted leb (a .list .now) (c .before .before .before .before .before .before .before .before .before .before .before .before .before .before .before .before .before .before .pre .0)),
     )
 
 same-length-4 : tie.Need-same-length-4
@@ -78,7 +79,7 @@ returns-2 c =
     let P = pointIn (a .xs .now) (a .ys .now) in
     let h = c .before .before .before .before .before .before .before .before .before .before .before .before .before .before .before .before .before .before .before .if1 .left in (
       settled-inner W P (a .list .now) (a .at) (a .node) (a .next) (a .corners .now) (a .links .now) _ _ h (rw (c .before .before .before .before .before .before .before .before .before .before .before .before .before .put-box2 .ensures, c .before .before .before .before .before .before .before .before .before .before .before .before .before .before .before .before .before .spans-of .ensures .0)) (c .before .before .before .before .before .before .before .before .before .put-links2 .ensures),
-      c .before .before .before .before .split .ensures ∙ sym (arranged-inner W P (a .list .now) (a .at) (a .node) (a .next) (a .corners .now) (a .links .now) h),
+      c .before .before .before .before .split .ensures ∙ sym (arranged-inner P (a .list .now) h),
     )
 
 pub settle-spec : {M : Type 1} → statement M

@@ -2,10 +2,9 @@
 use Rattle.boxes.specs.BoxLists.{boxCount, wideAt}
 use Rattle.boundary.specs.Boxes.{hull}
 use Rattle.tree.specs.Tree.{hullOf}
-use Rattle.index.proofs.GrowLaws.{run-ascends}
 use Rattle.lists.specs.Lists.{run, fold}
 use Rattle.lists.proofs.FoldLaws.{fold-run-next, fold-run-end}
-use Rattle.sorts.proofs.PartLaws.{sort-sorted}
+use Rattle.sorts.proofs.PartLaws.{sort-sorted, run-ascends}
 use lib.Dec.{leb}
 use native.Mathlib.Nat.{sub-zero}
 use Prim.Native.Nat.{_≤_, _-_}

@@ -1,4 +1,4 @@
--- The box around items' boxes is around each of them, is in every box that is around all of them, and is finite where they are; widened boxes of the field have no NaN. Assumes nothing.
+-- The box around items' boxes is around each of them, is in every box that is around all of them, and is finite where they are. Assumes nothing.
 use mathlib.Core.Path.{_≡_, refl}
 use mathlib.Core.Bool.{true, false}
 use mathlib.Core.List.{List, [], _∷_}
@@ -6,46 +6,18 @@ use Prim.Native.Nat.{ℕ, _<_}
 use native.Mathlib.Omega.{arith}
 use lib.Dec.{T, leb}
 use lib.ListN.{length}
-use lib.Ieee.{Float, nan, inf, fin, binary64, mul, lt}
+use lib.Ieee.{Float, nan, inf, fin, lt}
 use lib.Ieee.Scale.{finite}
-use Rattle.number.specs.Signs.{absOf, maxOf}
-use Rattle.number.proofs.MagnitudeOrder.{max-one-of}
-use Rattle.number.proofs.Values.{add-not-nan, sub-not-nan, mul-not-nan, abs-finite}
-use Rattle.boundary.specs.declared.Bounds.{Bounds}
-use Rattle.number.specs.Exact.{Held, one}
-use Rattle.boundary.specs.Boxes.{FiniteBox, Around, boxFits, hull, emptyBox, nano, scaleOf, widenedOf}
-use Rattle.lists.specs.Lists.{fold, times, In}
+use Rattle.number.specs.Exact.{Held}
 use Rattle.number.proofs.Basics.{one-of}
-use Rattle.boundary.proofs.FieldLaws.{in-field-finite, fits-in-field}
-use Rattle.boundary.proofs.AroundLaws.{NotNan, NumberBox, around-self, around-through, hull-number, hull-around, hull-within, around-empty, empty-number}
+use Rattle.boundary.specs.declared.Bounds.{Bounds}
+use Rattle.boundary.specs.Boxes.{FiniteBox, Around, hull, emptyBox}
+use Rattle.boundary.proofs.AroundLaws.{NumberBox, around-self, around-through, hull-number, hull-around, hull-within, around-empty, empty-number}
+use Rattle.lists.specs.Lists.{fold, times, In}
+use Rattle.lists.proofs.MemberLaws.{in-cons, in-first, in-rest}
 use Rattle.sorts.specs.Sort.{sort}
 use Rattle.sorts.proofs.SortLaws.{length-sort, times-sort}
 use Rattle.tree.specs.Tree.{hullBy, hullOf}
-use Rattle.lists.proofs.MemberLaws.{in-cons, in-first, in-rest}
-
--- ---- widened boxes
-grow-finite : (x y : Float) → T (finite x) → T (finite y) → T (finite (maxOf x (absOf y)))
-grow-finite x y p q = max-one-of (λ v. T (finite v)) {x = x} {y = absOf y} p (abs-finite y q)
-
--- a box that passes test 11 has finite corners, and its widened box no NaN
-pub fits-wide : (b : Bounds) → T (boxFits b) → NumberBox (widenedOf b)
-unfolding widenedOf scaleOf
-fits-wide b h =
-    let F = fits-in-field b h in
-    let left = in-field-finite (b .min .x) (F .min .x) in
-    let bottom = in-field-finite (b .min .y) (F .min .y) in
-    let right = in-field-finite (b .max .x) (F .max .x) in
-    let top = in-field-finite (b .max .y) (F .max .y) in
-    let s₁ = maxOf one (absOf (b .min .x)) in
-    let s₂ = maxOf s₁ (absOf (b .min .y)) in
-    let s₃ = maxOf s₂ (absOf (b .max .x)) in
-    let scale : T (finite (scaleOf b)) = grow-finite s₃ (b .max .y) (grow-finite s₂ (b .max .x) (grow-finite s₁ (b .min .y) (grow-finite one (b .min .x) tt left) bottom) right) top in
-    let w = mul binary64 nano (scaleOf b) in
-    let m : NotNan w = mul-not-nan nano (scaleOf b) tt scale in
-    record {
-      min = record { x = sub-not-nan (b .min .x) w left m; y = sub-not-nan (b .min .y) w bottom m };
-      max = record { x = add-not-nan (b .max .x) w right m; y = add-not-nan (b .max .y) w top m };
-    }
 
 -- ---- the box around the items' boxes
 module _ (W : ℕ → Bounds) where

@@ -1,26 +1,24 @@
--- The tree by its first split, and how many items and nodes it has: 511 nodes do for 1,024 items. Assumes nothing.
+-- The tree by its first split, and its items: the list's, each as often. Assumes nothing.
 use mathlib.Core.Path.{_≡_, refl, _∙_}
 use mathlib.Core.Bool.{Bool, true, false}
 use mathlib.Core.List.{List}
-use Prim.Native.Nat.{ℕ, zero, suc, _+_, _*_, _/_, _^_, _≤_, _<_}
-use native.Mathlib.Nat.{pow-suc}
+use Prim.Native.Nat.{ℕ, zero, suc, _+_, _/_, _≤_, _<_}
 use native.Mathlib.Omega.{arith}
 use lib.Dec.{leb, ltb}
 use lib.ListN.{length, take, drop, length-drop, length-append}
-use lib.Pow.{pow-pos}
 use lib.Seq.{length-take-le}
+use lib.Ieee.{Float}
 use borrow.Author.Tests.{lt-ltb, le-ltb, ltb-true, ltb-false}
 use Rattle.boundary.specs.declared.Point.{Point}
 use Rattle.boundary.specs.declared.Bounds.{Bounds}
-use Rattle.lists.specs.Lists.{times}
+use Rattle.lists.specs.Lists.{run, times}
+use Rattle.lists.proofs.MemberLaws.{times-append, times-parts, times-past, times-within}
 use Rattle.sorts.specs.Sort.{sort}
 use Rattle.sorts.specs.Keys.{precedes}
-use Rattle.lists.proofs.MemberLaws.{times-parts}
 use Rattle.sorts.proofs.SortLaws.{length-sort, times-sort}
 use Rattle.sorts.proofs.PartLaws.{ascend-again, goes-again}
-use Rattle.tree.specs.Tree.{Tree, leaf, inner, hullOf, spreadOf, alongY, centreAlong, ordered, treeOn, treeOf, itemsOf}
-use Rattle.nodes.specs.Layout.{extra, nodesOf}
-use Rattle.nodes.proofs.LayoutLaws.{length-below}
+use Rattle.boxes.specs.BoxLists.{boxCount, wideAt, centreOf}
+use Rattle.tree.specs.Tree.{Tree, leaf, inner, hullOf, spreadOf, alongY, centreAlong, ordered, treeOn, treeOf, indexOf, itemsOf}
 
 module _ (C : ℕ → Point) (is : List ℕ) where
   pub length-ordered : length (ordered C is) ≡ length is
@@ -106,7 +104,6 @@ module _ (W : ℕ → Bounds) (C : ℕ → Point) where
           let n = length-sort g is in
           tree-split (sort g is) (omega arith) ∙ rw (tree-split is s, hull-sorted g is, n, ordered-sorted g is)
 
-  -- ---- how many items and nodes there are
   -- what holds of every leaf, and of an inner tree where it holds of both halves
   pub tree-induct : (P : List ℕ → Tree → Type 0) → ((is : List ℕ) → length is ≤ 4 → P is (leaf (hullOf W is) (sort leb is)))
       → ((is : List ℕ) (l r : Tree) → 4 < length is → P (left C is) l → P (right C is) r → P is (inner (hullOf W is) l r))
@@ -122,33 +119,23 @@ module _ (W : ℕ → Bounds) (C : ℕ → Point) where
           let b = length-right C is in
           rw (tree-split is s) (step is (treeOf W C (left C is)) (treeOf W C (right C is)) s (l (omega arith)) (r (omega arith)))
 
+  -- ---- a tree's items are its list's
   pub length-items : (is : List ℕ) → length (itemsOf (treeOf W C is)) ≡ length is
   unfolding itemsOf
   length-items is = tree-induct (λ is t. length (itemsOf t) ≡ length is) (λ is h. length-sort leb is)
       (λ is l r h p q. let a = length-left C is in let b = length-right C is in let s = length-append (itemsOf l) (itemsOf r) in omega arith) (length is) is (omega arith)
 
-  -- the nodes below the root are fewer than twice the items
-  pub extra-below : (is : List ℕ) → 0 < length is → extra (treeOf W C is) + 2 ≤ 2 * length is
-  unfolding extra
-  extra-below is = tree-induct (λ is t. 0 < length is → extra t + 2 ≤ 2 * length is) (λ is h z. omega arith)
-      (λ is l r h p q z. let a = length-left C is in let b = length-right C is in let u = p (omega arith) in let v = q (omega arith) in omega arith) (length is) is (omega arith)
+-- each as often
+module _ (W : ℕ → Bounds) (C : ℕ → Point) (i : ℕ) where
+  pub items-times : (is : List ℕ) → times i (itemsOf (treeOf W C is)) ≡ times i is
+  unfolding itemsOf
+  items-times is = tree-induct W C (λ is t. times i (itemsOf t) ≡ times i is) (λ is h. times-sort leb i is)
+      (λ is l r h p q. let a = times-append i (itemsOf l) (itemsOf r) in let b = times-halves C is i in omega arith) (length is) is (omega arith)
 
-  pub extra-bound : (k : ℕ) (is : List ℕ) → length is ≤ 4 * 2 ^ k → extra (treeOf W C is) + 2 ≤ 2 * 2 ^ k
-  unfolding extra
-  extra-bound k is = tree-induct (λ is t. (k : ℕ) → length is ≤ 4 * 2 ^ k → extra t + 2 ≤ 2 * 2 ^ k) (λ is h k l. let p = pow-pos k in omega arith) step (length is) is (omega arith) k
-    where
-      step : (is : List ℕ) (l r : Tree) → 4 < length is → ((k : ℕ) → length (left C is) ≤ 4 * 2 ^ k → extra l + 2 ≤ 2 * 2 ^ k) → ((k : ℕ) → length (right C is) ≤ 4 * 2 ^ k → extra r + 2 ≤ 2 * 2 ^ k)
-          → (k : ℕ) → length is ≤ 4 * 2 ^ k → extra (inner (hullOf W is) l r) + 2 ≤ 2 * 2 ^ k
-      step is l r h p q zero n = absurd (omega arith)
-      step is l r h p q (suc k) n =
-          let e : 2 ^ suc k ≡ 2 ^ k * 2 = pow-suc 2 k in
-          let a = length-left C is in
-          let b = length-right C is in
-          let u = p k (omega arith) in
-          let v = q k (omega arith) in
-          omega arith
-
-  -- 511 NODES suffice for 1,024 boxes
-  pub nodes-suffice : (is : List ℕ) → length is ≤ 1024 → length (nodesOf (treeOf W C is)) ≤ 511
-  unfolding nodesOf
-  nodes-suffice is h = let e = extra-bound 8 is h in let l = length-below (treeOf W C is) 0 1 in omega arith
+-- ITEMS: every number of a box occurs once in the items of the index, and no other number does
+module _ (v : List Float) where
+  pub items-once : (i : ℕ) → (i < boxCount v → times i (itemsOf (indexOf v)) ≡ 1) × (boxCount v ≤ i → times i (itemsOf (indexOf v)) ≡ 0)
+  unfolding indexOf
+  items-once i =
+      let e = items-times (wideAt v) (λ i. centreOf (wideAt v i)) i (run (λ n. n) 0 (boxCount v)) in
+      (λ h. e ∙ times-within i 0 (boxCount v) (omega arith) (omega arith), λ h. e ∙ times-past i 0 (boxCount v) (omega arith))

@@ -17,8 +17,8 @@ use Rattle.boundary.proofs.AroundLaws.{NotNan, NumberBox, around-empty, empty-n
 use Rattle.boundary.proofs.MinMaxLaws.{same-fold, fold-ieee-of}
 use Rattle.lists.specs.Lists.{In}
 use Rattle.lists.proofs.MemberLaws.{every-in}
 use Rattle.tree.specs.Tree.{hullBy, hullOf, spreadOf, alongYBy, alongY}
-use Rattle.index.proofs.HullLaws.{folded, fold-within, hull-of-number, hull-of-around, hull-of-within, hull-of-finite}
+use Rattle.tree.proofs.HullLaws.{folded, fold-within, hull-of-number, hull-of-around, hull-of-within, hull-of-finite}
 
 module _ (W : ℕ → Bounds) (is : List ℕ) (N : (i : ℕ) → In i is → NumberBox (W i)) where
   -- as the entries stand and in the order of their numbers: each of the two boxes is around the other
