@@ -1,5 +1,7 @@
 -- Laws of the boundary layer.
 
+-- The vertices and edges of an outline.
+pub mod OutlineLaws
 -- Values of the field, and boxes of such.
 pub mod FieldLaws
 -- The nearest point of an edge lies between its ends, widened, of one axis.

@@ -39,9 +39,9 @@ use Rattle.lists.proofs.MemberLaws.{same-length}
 use Rattle.lists.specs.Lists.Some.{here, there}
 use Rattle.exact.proofs.Location.{contains-exact}
 use Rattle.grid.proofs.Apart.{zero-squares, off-edge-apart}
-use Rattle.grid.proofs.LeastDistance.{den-above, least-distance}
+use Rattle.grid.proofs.LeastDistance.{den-above, least-distance, den-nonneg}
 use Rattle.grid.proofs.NearestEdge.{NotAbove, not-above-least, Exactly, exact-above, exact-distance}
-use Rattle.exact.proofs.EdgeDistance.{den-nonneg, den-small, edge-near}
+use Rattle.exact.proofs.EdgeDistance.{den-small, edge-near}
 
 -- ---- edges with different ends have a length
 abbrev Long : List EdgeZ → Type 0

@@ -31,11 +31,12 @@ use Rattle.exact.specs.Grid.{PointOn, EdgeOn}
 use Rattle.grid.specs.Distance.{Region, regionOf, dotZ, lengthZ, denOf, numZ, denZ}
 use Rattle.exact.specs.Distance.{step, tolerance, Near24}
 use Rattle.grid.specs.Distance.Region.{beforeStart, beside, pastEnd}
-use Rattle.exact.proofs.OneEdge.{difference, product}
-use Rattle.grid.proofs.LeastDistance.{reach-square, den-above}
+use Rattle.exact.proofs.OneEdge.{product}
+use Rattle.grid.proofs.LeastDistance.{reach-square, den-nonneg}
 use Rattle.grid.proofs.Regions.{in-region, reach}
 use Rattle.exact.proofs.Parameter.{U, E, U0, E0, one-is, Param, clamped}
 use Rattle.exact.proofs.Chain as C
+use Rattle.grid.proofs.GridLaws.{difference}
 
 -- a number of steps, in units of 2 ^ -1074
 in-units : {x : Float} {z : ℤ} {n : ℕ} → Sized 10 n x z → Sized 1074 (n * 2 ^ 1064) x (z *ℤ step)
@@ -100,10 +101,6 @@ module _ (num den w1 w2 s l K : ℤ) (l0 : pos 0 ≺ l) (d0 : pos 0 ≦ den) (sa
 
   fraction-below : K *ℤ (l *ℤ l) ≦ (w1 *ℤ s) *ℤ (w1 *ℤ s) +ℤ (w2 *ℤ s) *ℤ (w2 *ℤ s) → K *ℤ den ≦ num *ℤ (s *ℤ s)
   fraction-below h = mul-cancel (l *ℤ l) (K *ℤ den) (num *ℤ (s *ℤ s)) (mul-pos l0 l0) (le-from σ (L.eq scaled ∷ L.le (mul-mono den d0 h) ∷ []) (search quote depth 30) (omega arith))
-
--- ---- the denominator
-pub den-nonneg : (f : EdgeZ) (q : PointZ) → pos 0 ≺ lengthZ f → pos 0 ≦ denZ f q
-den-nonneg f q L0 = <ℤ→≤ℤ (den-above f q L0)
 
 -- ---- the edge
 module _ {e : Edge} {f : EdgeZ} {p : Point} {q : PointZ} (G : EdgeOn e f) (P : PointOn p q) (L0 : pos 0 ≺ lengthZ f) where

@@ -1,7 +1,7 @@
 -- An outline's edges are the loop of its vertices: each joined to the next, and the last to the first. Assumes nothing.
 use mathlib.Core.Path.{_≡_, refl, ap₂}
 use mathlib.Core.List.{List, [], _∷_}
-use Prim.Native.Nat.{ℕ, zero, suc, _+_, _*_}
+use Prim.Native.Nat.{ℕ, zero, suc, _+_}
 use native.Mathlib.Numerals.{add-one}
 use native.Mathlib.Omega.{arith}
 use borrow.Author.Tests.{eq-eqb, ne-eqb}
@@ -38,12 +38,3 @@ edges-loop v = go (count v) refl
     go : (n : ℕ) → count v ≡ n → run (edgeAt v) 0 (count v) ≡ loop edge (run (vertexAt v) 0 (count v))
     go zero e = rw e
     go (suc n) e = rw e (run-loop edge (vertexAt v) (count v) 0 n (omega arith))
-
--- ---- vertices and their numbers
-pub vertices-more : (x y : Float) (v : List Float) → vertices (x ∷ y ∷ v) ≡ record { x = x; y = y } ∷ vertices v
-unfolding vertices run
-vertices-more x y v = let e : count (x ∷ y ∷ v) ≡ suc (count v) = omega arith in rw e (ap₂ _∷_ refl (shift 0 (count v)))
-  where
-    shift : (i n : ℕ) → run (vertexAt (x ∷ y ∷ v)) (suc i) n ≡ run (vertexAt v) i n
-    shift i zero = refl
-    shift i (suc n) = let e : 2 * suc i ≡ suc (suc (2 * i)) = omega arith in let f : 2 * suc i + 1 ≡ suc (suc (2 * i + 1)) = omega arith in rw (f, e) (ap₂ _∷_ refl (shift (suc i) n))

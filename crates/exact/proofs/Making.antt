@@ -21,7 +21,7 @@ use Rattle.number.proofs.Compare.{lt-false, is-lt, not-lt, eq-false, lt-is, eq-
 use Rattle.boundary.specs.declared.Point.{Point}
 use Rattle.boundary.specs.declared.Edge.{Edge}
 use Rattle.lists.specs.Lists.{any, atFront, Each}
-use Rattle.boundary.specs.Outline.{samePoint, count, vertexAt, vertices, edges}
+use Rattle.boundary.specs.Outline.{samePoint, count, vertices, edges}
 use Rattle.accept.specs.declared.Test.{Test}
 use Rattle.accept.specs.declared.Test.the-variants.{Passed, Failed}
 use Rattle.accept.specs.declared.Answer.{Answer}
@@ -35,17 +35,18 @@ use Rattle.grid.specs.Grid.{OutlineOn}
 use Rattle.grid.specs.Whole.{PointZ, EdgeZ, edgeZ, shoelaceTermZ, shoelaceZ}
 use Rattle.exact.specs.Grid.{PointOn, EdgeOn, EdgesOn}
 use Rattle.exact.specs.OneOutline.{MadeOn}
-use Rattle.lists.proofs.RunLaws.{length-run}
 use Rattle.lists.proofs.FoldLaws.{any-never}
 use Rattle.lists.proofs.MemberLaws.{any-each, take-each, reverse-each}
 use Rattle.exact.proofs.Loop.{loop, edges-loop}
 use Rattle.exact.proofs.Turned.{loop-reversed}
-use Rattle.exact.proofs.Numbers.{length-numbers, vertices-numbers, numbers-vertices, numbers-on}
+use Rattle.exact.proofs.Numbers.{numbers-on}
 use Rattle.exact.proofs.WholeEdges.{loop-on, vertices-on}
 use Rattle.accept.proofs.TestLaws.{Shape, shape, tested, refusing-passed}
-use Rattle.exact.proofs.Tests.{grid-finite, grid-in-field}
+use Rattle.exact.proofs.Tests.{grid-in-field}
 use Rattle.exact.proofs.Area.{area-exact}
-use Rattle.exact.proofs.OneOutline.{few-edges}
+use Rattle.boundary.proofs.OutlineLaws.{length-vertices, few-edges}
+use Rattle.geometry.proofs.CoordinateLaws.{length-numbers, vertices-numbers, numbers-vertices}
+use Rattle.grid.proofs.GridLaws.{grid-finite}
 
 -- ---- test 7: whether the ends are equal does not depend on their order
 abbrev sameEnds : EdgeZ → Bool
@@ -79,10 +80,6 @@ shoelace-reversed qs =
 -- ---- an outline of negative area, reversed
 edges-numbers : {ps : List Point} {qs : List PointZ} → Each PointOn ps qs → EdgesOn (edges (coordinatesOf ps)) (loop edgeZ qs)
 edges-numbers {ps} r = rw (edges-loop (coordinatesOf ps), vertices-numbers ps) (loop-on r)
-
-length-vertices : (v : List Float) → length (vertices v) ≡ count v
-unfolding vertices
-length-vertices v = length-run (vertexAt v) 0 (count v)
 
 even-length : {w : List Float} → Shape w → length w ≡ 2 * count w
 even-length {w} s = let h = eqb-false (length w % 2) 1 (s .even) in omega arith

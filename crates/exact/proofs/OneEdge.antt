@@ -24,16 +24,13 @@ use Rattle.number.proofs.Compare.{eqZ→, →eqZ, lt-false, lt-is, eq-is}
 use Rattle.boundary.specs.declared.Point.{Point}
 use Rattle.boundary.specs.declared.Edge.{Edge}
 use Rattle.geometry.specs.Polygon.{crossesOf, crossOf, onEdge}
-use Rattle.grid.specs.Grid.{OnGrid}
 use Rattle.grid.specs.Whole.{PointZ, EdgeZ, crossZ, onEdgeZ, crossesZ}
 use Rattle.exact.specs.Grid.{PointOn, EdgeOn}
 use Rattle.grid.proofs.Between.{product-nearer}
 use Rattle.exact.proofs.Between.{between-is}
 use Rattle.grid.proofs.Line.{Across, across}
 use Rattle.exact.proofs.Crossing.{lt-scaled, lt-beside, denominator-cleared, at-crossing, rounded-in, crossing-near}
-
-pub difference : {x y : Float} {z w : ℤ} → OnGrid x z → OnGrid y w → Sized 10 (2 ^ 21) (sub binary64 x y) (z -ℤ w)
-difference h g = sub-sized h g (lit≤ tt) (lit≤ tt)
+use Rattle.grid.proofs.GridLaws.{difference}
 
 pub product : {x y : Float} {z w : ℤ} → Sized 10 (2 ^ 21) x z → Sized 10 (2 ^ 21) y w → Sized 20 (2 ^ 42) (mul binary64 x y) (z *ℤ w)
 product h g = mul-sized h g (lit≤ tt) (lit≤ tt)

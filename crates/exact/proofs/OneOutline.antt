@@ -1,15 +1,9 @@
 -- Demand 3 of one outline that the tests accept and one point, on the grid. Assumes nothing.
 use mathlib.Core.Path.{_≡_}
-use mathlib.Core.Bool.{false}
 use mathlib.Core.List.{List}
-use Prim.Native.Nat.{_<_, _≤_}
-use native.Mathlib.Omega.{arith}
-use borrow.Author.Tests.{ltb-false}
-use lib.Dec.{ltb}
-use lib.ListN.{length}
 use lib.Ieee.{Float}
 use Rattle.boundary.specs.declared.Point.{Point}
-use Rattle.boundary.specs.Outline.{count, edgeAt, edges}
+use Rattle.boundary.specs.Outline.{edges}
 use Rattle.distance.specs.Nearest.{nearestOf, signedOf}
 use Rattle.accept.specs.declared.Test.the-variants.{Passed}
 use Rattle.accept.specs.Area.{areaOf}
@@ -23,18 +17,10 @@ use Rattle.exact.specs.OneOutline.{OutlineExact}
 use Rattle.exact.proofs.Area.{area-exact}
 use Rattle.exact.proofs.Location.{location-exact, contains-exact}
 use Rattle.exact.proofs.Distance.{distance-near}
-use Rattle.lists.proofs.RunLaws.{length-run}
 use Rattle.exact.proofs.WholeEdges.{edges-on}
 use Rattle.accept.proofs.TestLaws.{shape, outline-shape-passed}
 use Rattle.exact.proofs.Tests.{grid-in-field}
-
-pub few-edges : (v : List Float) → ltb 4096 (count v) ≡ false → length (edges v) ≤ 4096
-unfolding edges
-few-edges v h = rw (length-run (edgeAt v) 0 (count v)) (ltb-false 4096 (count v) h)
-
-some-edges : (v : List Float) → ltb (count v) 3 ≡ false → 0 < length (edges v)
-unfolding edges
-some-edges v h = rw (length-run (edgeAt v) 0 (count v)) (let l = ltb-false (count v) 3 h in omega arith)
+use Rattle.boundary.proofs.OutlineLaws.{few-edges, some-edges}
 
 pub grid-exact : {o : List Float} {p : Point} {q : PointZ} → OutlineOn o → outlineTested o ≡ Passed → PointOn p q → OutlineExact o p q
 unfolding areaAnswer queryTested locateAnswer containsAnswer distanceAnswer given _refusing_when_

@@ -1,24 +1,17 @@
--- The tests of a number of the grid. Assumes nothing.
+-- A number of the grid is in the field. Assumes nothing.
 use mathlib.Core.Path.{_≡_, refl}
 use mathlib.Core.Bool.{true}
 use Prim.Native.Nat.{_^_}
 use native.Mathlib.Nat.{le-trans}
 use lib.Dec.{lit≤}
 use lib.IntN.{ℤ, pos}
-use lib.Ieee.{Float, nan, inf, fin}
-use lib.Ieee.Scale.{finite}
+use lib.Ieee.{Float}
 use Rattle.algebra.specs.Order.{Within, within-natAbs}
 use Rattle.number.specs.Exact.{Is}
 use Rattle.number.proofs.Operations.{equation→is, neg-is}
 use Rattle.number.proofs.Compare.{le-true, le-is}
 use Rattle.boundary.specs.Boxes.{limit, inField}
 use Rattle.grid.specs.Grid.{OnGrid}
-
--- it is finite
-pub grid-finite : {x : Float} {z : ℤ} → OnGrid x z → finite x ≡ true
-grid-finite {x = nan} g = absurd (g .is .has)
-grid-finite {x = inf s} g = absurd (g .is .has)
-grid-finite {x = fin s m e} g = refl
 
 limit-is : Is 10 limit (pos (2 ^ 30))
 limit-is = equation→is limit refl

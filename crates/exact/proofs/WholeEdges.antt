@@ -10,7 +10,8 @@ use Rattle.grid.specs.Grid.{OnGrid, OutlineOn}
 use Rattle.grid.specs.Whole.{PointZ, EdgeZ, edgeZ}
 use Rattle.exact.specs.Grid.{PointOn, EdgesOn}
 use Rattle.lists.specs.Lists.Each.{none, more}
-use Rattle.exact.proofs.Loop.{path, loop, edge, edges-loop, vertices-more}
+use Rattle.exact.proofs.Loop.{path, loop, edge, edges-loop}
+use Rattle.boundary.proofs.OutlineLaws.{vertices-more}
 
 path-on : {p r : Point} {q s : PointZ} {ps : List Point} {qs : List PointZ} → PointOn p q → Each PointOn ps qs → PointOn r s → EdgesOn (path edge p ps r) (path edgeZ q qs s)
 unfolding path

@@ -57,6 +57,9 @@ module _ (f : EdgeZ) (q : PointZ) where
       go beside = L0
       go pastEnd = record { lt = tt }
 
+  pub den-nonneg : pos 0 ≺ lengthZ f → pos 0 ≦ denZ f q
+  den-nonneg L0 = <ℤ→≤ℤ (den-above L0)
+
   pub least-distance : pos 0 ≺ lengthZ f → LeastDistance f q (numZ f q) (denZ f q)
   least-distance L0 = record {
     above = den-above L0;

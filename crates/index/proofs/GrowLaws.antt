@@ -9,7 +9,7 @@ use lib.Dec.{leb, eqb, ltb}
 use lib.ListN.{length, take, drop, length-replicate}
 use lib.Seq.{length-take-le, take-at, drop-at, sets}
 use lib.Ieee.{Float}
-use borrow.Author.Tests.{ltb-false, eqb-true}
+use borrow.Author.Tests.{ltb-false, eqb-true, le-ltb}
 use Rattle.boundary.specs.declared.Bounds.{Bounds}
 use Rattle.lists.specs.Lists.{run, any, atFront, zeros}
 use Rattle.sorts.specs.Sort.{sort, Sorted}
@@ -166,6 +166,10 @@ accepted-of v c l i e p =
     let s = or-none (ltb c 2044) (ltb l 1022 || ltb i 1024) e in
     let t = or-none (ltb l 1022) (ltb i 1024) (s .1) in
     record { size = b .size; whole = b .whole; corners = ltb-false c 2044 (s .0); links = ltb-false l 1022 (t .0); items = ltb-false i 1024 (t .1) }
+
+-- lists of the stated sizes are not too short
+pub short-none : (c l i : ℕ) → 2044 ≤ c → 1022 ≤ l → 1024 ≤ i → shortSizes c l i ≡ false
+short-none c l i p q r = rw (le-ltb c 2044 p, le-ltb l 1022 q, le-ltb i 1024 r)
 
 pub accepted-sizes : (v : List Float) (B : IndexBuffer) {t : Test} → t ≡ buildTested v B → t ≡ Passed
     → Accepted v (length (B .corners)) (length (B .links)) (length (B .items))

@@ -7,7 +7,7 @@ use lib.Dec.{eqb, ltb}
 use lib.ListN.{length}
 use lib.Ieee.{Float}
 use Rattle.boundary.specs.Boxes.{boxFits}
-use Rattle.lists.specs.Lists.{any, zeros}
+use Rattle.lists.specs.Lists.{any}
 use Rattle.accept.specs.declared.Refusal.the-variants.{TooMany, BadBox, ShortBuffer}
 use Rattle.accept.specs.declared.Test.{Test}
 use Rattle.accept.specs.declared.Test.the-variants.{Passed}

@@ -1,11 +1,10 @@
 -- The node records of an index buffer. Assumes nothing.
 use mathlib.Core.Path.{_≡_, refl, sym, ap, _∙_}
-use mathlib.Core.Bool.{false}
 use mathlib.Core.List.{List, [], _++_, flatMap}
 use Prim.Native.Nat.{ℕ, _+_, _≤_, _<_}
 use native.Mathlib.Omega.{arith}
 use lib.Dec.{ltb}
-use borrow.Author.Tests.{ltb-false, le-ltb}
+use borrow.Author.Tests.{ltb-false}
 use lib.ListN.{length, getD, take, drop, length-replicate}
 use lib.Seq.{take-at, ext-getD}
 use lib.Ieee.{Float}
@@ -23,7 +22,7 @@ use Rattle.boxes.specs.BoxLists.{boxCount}
 use Rattle.tree.specs.Tree.{Tree, indexOf, itemsOf}
 use Rattle.nodes.specs.Layout.{nodeOf, nodesOf, cornersOf, linksOf}
 use Rattle.index.specs.declared.BuildFields.{BuildFields}
-use Rattle.index.specs.Buffer.{IndexBuffer, shortSizes, holding, grown}
+use Rattle.index.specs.Buffer.{IndexBuffer, holding, grown}
 use Rattle.index.specs.Answers.{boxesTested}
 use Rattle.index.proofs.IndexCovers.{nodes-511}
 use Rattle.index.proofs.GrowLaws.{length-index-items, grown-nodes, grown-lent}
@@ -80,9 +79,6 @@ module _ (v : List Float) (n i : ℕ) where
       let items = refusing-passed (boxesTested v refusing ShortBuffer when ltb n 511) ShortBuffer (ltb i 1024) (sym tested ∙ e) in
       let nodes = refusing-passed (boxesTested v) ShortBuffer (ltb n 511) (items .0) in
       (nodes .0, ltb-false n 511 (nodes .1), ltb-false i 1024 (items .1))
-
-pub short-none : (c l i : ℕ) → 2044 ≤ c → 1022 ≤ l → 1024 ≤ i → shortSizes c l i ≡ false
-short-none c l i p q r = rw (le-ltb c 2044 p, le-ltb l 1022 q, le-ltb i 1024 r)
 
 -- ---- all that `records` leaves
 module _ (v : List Float) (room : ℕ) (I : List ℕ) where

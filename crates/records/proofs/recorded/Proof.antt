@@ -1,7 +1,7 @@
 -- `records::recorded` meets its contract. Assumes nothing.
-use Rattle.index.proofs.GrowLaws.{boxes-passed, accepted-of, index-nodes, grown-nodes}
+use Rattle.index.proofs.GrowLaws.{boxes-passed, accepted-of, index-nodes, grown-nodes, short-none}
 use Rattle.index.specs.Buffer.{buffer}
-use Rattle.records.proofs.RecordLaws.{short-none, recorded-grown}
+use Rattle.records.proofs.RecordLaws.{recorded-grown}
 use native.Mathlib.Omega.{arith}
 use borrow.Author.Needs.{needs}
 use Rattle.records.proofs.recorded.Statement.{statement}
