@@ -1,4 +1,4 @@
--- WHAT A CALL THAT PASSES THE TESTS LISTS: what `meeting` and the Rust's walk do, and so every box that shares a point with the cell. Assumes nothing.
+-- WHAT A CALL THAT PASSES THE TESTS LISTS: what `meeting` and the Rust's walk do, no number twice, and every box that shares a point with the cell; and what two calls list, one for a cell inside the other's. Assumes nothing.
 use mathlib.Core.Path.{_≡_, refl, sym, ap, _∙_}
 use mathlib.Core.Bool.{Bool, true, false}
 use mathlib.Core.List.{List}
@@ -72,7 +72,8 @@ module _ (v : List Float) (c : Bounds) (B : IndexBuffer) (S : List ℕ) (passed 
   pub lists-visited : listedBy v c B S ≡ visitedOf c (indexOf v)
   lists-visited = lists-meeting ∙ sym (visited-is c (indexOf v) (nested v boxes-pass))
 
-  listed-at : (k : ℕ) (box : Bool) → ltb k (boxCount v) ≡ box → (times k (listedBy v c B S) ≤ 1) × (In k (listedBy v c B S) → k < boxCount v)
+  listed-at : (k : ℕ) (box : Bool) → ltb k (boxCount v) ≡ box
+      → (times k (listedBy v c B S) ≤ 1) × (In k (listedBy v c B S) → k < boxCount v)
   listed-at k box e = rw lists-meeting (go box e (sublist-times k (meeting-items c (indexOf v))))
     where
       go : (box : Bool) → ltb k (boxCount v) ≡ box → {n : ℕ} → n ≤ times k (itemsOf (indexOf v)) → (n ≤ 1) × (0 < n → k < boxCount v)
@@ -94,7 +95,8 @@ module _ (v : List Float) (c : Bounds) (B : IndexBuffer) (S : List ℕ) (passed 
       rw lists-meeting (meeting-lists v c k boxes-pass l field (shared-not-apart (boxAt v k) c shared))
 
 -- ---- zooming out (document 02, U2): two calls over the same boxes, one for the cell c, one for a cell d that c lies inside, each with buffers of its own
-module _ (v : List Float) (c d : Bounds) (B E : IndexBuffer) (S U : List ℕ) (passed : meetingTested v c B S ≡ Passed) (passes : meetingTested v d E U ≡ Passed) (inside : Around d c) where
+module _ (v : List Float) (c d : Bounds) (B E : IndexBuffer) (S U : List ℕ)
+    (passed : meetingTested v c B S ≡ Passed) (passes : meetingTested v d E U ≡ Passed) (inside : Around d c) where
   -- IN ORDER: what the inner cell lists is what the outer lists with some items left out
   pub zooming-out-order : Sublist (listedBy v c B S) (listedBy v d E U)
   zooming-out-order = rw (lists-meeting v c B S passed, lists-meeting v d E U passes) (meeting-sublist c d inside (indexOf v))

@@ -68,7 +68,8 @@ shared-not-apart b c s =
     reached {lo} {p} {hi} {lo′} {hi′} i j = le-not-below hi′ lo (le-through lo p hi′ (i .low) (j .high))
 
 -- of one axis: where neither ends below the other begins, the greater minimum is in both
-between-both : (lo hi lo′ hi′ : Float) → T (le lo hi) → T (le lo′ hi′) → lt hi′ lo ≡ false → lt hi lo′ ≡ false → Between lo (greater lo lo′) hi × Between lo′ (greater lo lo′) hi′
+between-both : (lo hi lo′ hi′ : Float) → T (le lo hi) → T (le lo′ hi′) → lt hi′ lo ≡ false → lt hi lo′ ≡ false
+    → Between lo (greater lo lo′) hi × Between lo′ (greater lo lo′) hi′
 between-both lo hi lo′ hi′ h h′ e e′ = go (lt lo lo′) refl
   where
     go : (b : Bool) → lt lo lo′ ≡ b → Between lo (cond b lo′ lo) hi × Between lo′ (cond b lo′ lo) hi′

@@ -23,7 +23,6 @@ use types.Kit.{Given, Item, ‵, raw, some, later, _⊛_, ⋆, mean, _$_, _∵_,
 use types.Run.{look, init, forget, stop, hop, fld, from, load, addr, of-opd, and-then, no-more, assigns, land, returns, enter, alloc1, alloc0, params1, pass1, pass0, free1, free0}
 use types.Part.{agg, whole, sub, look-in}
 use sound.WpLaws.{fmOf, WpFn-mono}
-use denote.RattleType.{owns}
 use denote.Laws.{Is, shows}
 use denote.Plain.{uint-makes}
 use denote.Builtin.{f64, u32, usize, unit, SliceRefOf}
