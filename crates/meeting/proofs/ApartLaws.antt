@@ -79,7 +79,10 @@ between-both lo hi lo′ hi′ h h′ e e′ = go (lt lo lo′) refl
     )
     go false g = (
       record { low = le-self lo (left-not-nan lo hi h); high = h },
-      record { low = not-below lo lo′ (left-not-nan lo hi h) (left-not-nan lo′ hi′ h′) g; high = not-below hi′ lo (right-not-nan lo′ hi′ h′) (left-not-nan lo hi h) e },
+      record {
+        low = not-below lo lo′ (left-not-nan lo hi h) (left-not-nan lo′ hi′ h′) g;
+        high = not-below hi′ lo (right-not-nan lo′ hi′ h′) (left-not-nan lo hi h) e;
+      },
     )
 
 -- a box and a cell that pass test 11 and are not apart share a point

@@ -47,7 +47,8 @@ module _ (c : Bounds) where
   visited-is (leaf b is) n = refl
   visited-is (inner b l r) n = go (apart b c) refl (visited-is l (n .3)) (visited-is r (n .4))
     where
-      go : (x : Bool) → apart b c ≡ x → visitedOf c l ≡ meetingOf c l → visitedOf c r ≡ meetingOf c r → cond x [] (visitedOf c l ++ visitedOf c r) ≡ meetingOf c l ++ meetingOf c r
+      go : (x : Bool) → apart b c ≡ x → visitedOf c l ≡ meetingOf c l → visitedOf c r ≡ meetingOf c r
+          → cond x [] (visitedOf c l ++ visitedOf c r) ≡ meetingOf c l ++ meetingOf c r
       go true e p q = rw (meeting-none l (n .3) (apart-inside b (treeBox l) c (n .1) e), meeting-none r (n .4) (apart-inside b (treeBox r) c (n .2) e))
       go false e p q = rw (p, q)
 
@@ -92,7 +93,8 @@ no-items (x ∷ xs) h = absurd (omega arith)
 
 module _ (v : List Float) (c : Bounds) (passed : boxesTested v ≡ Passed) where
   -- the walk of a buffer in which the index stands finds what `meeting` says
-  pub found-standing : (B : IndexBuffer) → ((length v ≡ 0 → ⊥) → Stands B 0 (indexOf v)) → (d : ℕ) → levels (indexOf v) ≤ d → found d (length v) B c ≡ meetingOf c (indexOf v)
+  pub found-standing : (B : IndexBuffer) → ((length v ≡ 0 → ⊥) → Stands B 0 (indexOf v)) → (d : ℕ) → levels (indexOf v) ≤ d
+      → found d (length v) B c ≡ meetingOf c (indexOf v)
   unfolding found
   found-standing B stands d h = go (eqb (length v) 0) refl
     where

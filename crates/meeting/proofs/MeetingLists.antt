@@ -32,7 +32,8 @@ module _ (W : ℕ → Bounds) (c : Bounds) (i : ℕ) (meets : apart (W i) c ≡ 
   listed-below (inner b l r) h k =
       let p : In i (itemsOf l) → In i (meetingOf c l) = listed-below l (h .1) in
       let q : In i (itemsOf r) → In i (meetingOf c r) = listed-below r (h .2) in
-      either (times i (itemsOf l)) (times i (itemsOf r)) (times i (meetingOf c l)) (times i (meetingOf c r)) p q (times-append i (itemsOf l) (itemsOf r)) (times-append i (meetingOf c l) (meetingOf c r)) k
+      either (times i (itemsOf l)) (times i (itemsOf r)) (times i (meetingOf c l)) (times i (meetingOf c r)) p q
+      (times-append i (itemsOf l) (itemsOf r)) (times-append i (meetingOf c l) (meetingOf c r)) k
     where
       pos-either : (a b : ℕ) → 0 < a + b → (0 < a) ⊎ (0 < b)
       pos-either zero b h = inr (omega arith)
@@ -47,7 +48,8 @@ unfolding wideAt
 wide-around v i f = widened-around f
 
 -- LISTED: every box that shares a point with the cell
-pub meeting-lists : (v : List Float) (c : Bounds) (i : ℕ) → boxesTested v ≡ Passed → i < boxCount v → FieldBox (boxAt v i) → apart (boxAt v i) c ≡ false → In i (meetingOf c (indexOf v))
+pub meeting-lists : (v : List Float) (c : Bounds) (i : ℕ) → boxesTested v ≡ Passed → i < boxCount v → FieldBox (boxAt v i)
+    → apart (boxAt v i) c ≡ false → In i (meetingOf c (indexOf v))
 meeting-lists v c i p h f e =
     let once = items-once v i .0 h in
     listed-below (wideAt v) c i (wide-meets (apart (wideAt v i) c) refl) (indexOf v) (node-boxes v p) (omega arith)

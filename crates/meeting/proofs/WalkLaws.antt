@@ -86,7 +86,9 @@ suc-of (suc d) h = omega arith
 
 module _ (B : IndexBuffer) (c : Bounds) (n : ℕ) where
   pub hits-level : (d : ℕ)
-      → hits (suc d) B c n ≡ cond (apart (nodeBox B n) c) [] (cond (ltb 0 (countAt (B .links) n)) (leafItems B n) (hits d B c (firstAt (B .links) n) ++ hits d B c (firstAt (B .links) n + 1)))
+      → hits (suc d) B c n
+      ≡ cond (apart (nodeBox B n) c) []
+      (cond (ltb 0 (countAt (B .links) n)) (leafItems B n) (hits d B c (firstAt (B .links) n) ++ hits d B c (firstAt (B .links) n + 1)))
   unfolding hits
   hits-level d = refl
 
@@ -99,7 +101,8 @@ module _ (B : IndexBuffer) (c : Bounds) (n : ℕ) where
   hits-apart (suc d) e = rw (hits-level d, e)
 
   -- with its links read
-  module _ (d f k : ℕ) (some : d ≡ 0 → ⊥) (meets : apart (nodeBox B n) c ≡ false) (ef : f ≡ firstAt (B .links) n) (ek : k ≡ countAt (B .links) n) where
+  module _ (d f k : ℕ) (some : d ≡ 0 → ⊥) (meets : apart (nodeBox B n) c ≡ false)
+      (ef : f ≡ firstAt (B .links) n) (ek : k ≡ countAt (B .links) n) where
     pub hits-leaf : 0 < k → run (itemAt (B .items)) f k ≡ hits d B c n
     hits-leaf h = rw (← suc-of d some, hits-level (d - 1), meets, lt-ltb 0 (countAt (B .links) n) (omega arith), ef, ek)
 

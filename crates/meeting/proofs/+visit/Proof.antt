@@ -186,8 +186,14 @@ visit-returns-3 : (t : ℕ) → visit-lts.Need-returns-3 (
 ) (visit-at t) visit.Post
 visit-returns-3 t c =
     let a = c .before .before .before .before .before .before .before .before .before .before .before .before .before .before .args in
+    let B = buffer (a .corners .now) (a .links .now) (a .items .now) in
+    let c4 = c .before .before .before .before in
+    let c7 = c4 .before .before .before in
+    let first = c4 .before .before .at in
+    let count = c4 .before .at2 in
+    let meets = sym (c7 .before .misses .ensures) ∙ c7 .if2 .left in
     same-run _ _ _ _ _ _
-    (hits-leaf (buffer (a .corners .now) (a .links .now) (a .items .now)) (a .c) (a .n) (a .depth) (c .before .before .before .before .before .before .at .result) (c .before .before .before .before .before .at2 .result) (c .before .before .before .before .before .before .before .before .before .if1 .left) (sym (c .before .before .before .before .before .before .before .before .misses .ensures) ∙ c .before .before .before .before .before .before .before .if2 .left) (c .before .before .before .before .before .before .at .ensures) (c .before .before .before .before .before .at2 .ensures) (c .before .before .before .before .if3 .taken))
+    (hits-leaf B (a .c) (a .n) (a .depth) (first .result) (count .result) (c7 .before .before .if1 .left) meets (first .ensures) (count .ensures) (c4 .if3 .taken))
     (c .before .before .copy .ensures)
 
 visit-sub-visit : (t : ℕ) → visit-lts.Need-sub-visit (
@@ -275,10 +281,17 @@ visit-returns-4 : (t : ℕ) → visit-lts.Need-returns-4 (
 visit-returns-4 t c =
     let a = c .before .before .before .before .before .before .before .before .before .before .before .before .before .before .before .before .before .before .args in
     let B = buffer (a .corners .now) (a .links .now) (a .items .now) in
-    let f = c .before .before .before .before .before .before .before .before .before .before .at .result in
+    let c6 = c .before .before .before .before .before .before in
+    let c8 = c6 .before .before in
+    let c11 = c8 .before .before .before in
+    let first = c8 .before .before .at in
+    let count = c8 .before .at2 in
+    let f = first .result in
+    let meets = sym (c11 .before .misses .ensures) ∙ c11 .if2 .left in
+    let below = hits (a .depth - 1) B (a .c) in
     same-run _ _ _ _ _ _
-    (hits-inner B (a .c) (a .n) (a .depth) f (c .before .before .before .before .before .before .before .before .before .at2 .result) (c .before .before .before .before .before .before .before .before .before .before .before .before .before .if1 .left) (sym (c .before .before .before .before .before .before .before .before .before .before .before .before .misses .ensures) ∙ c .before .before .before .before .before .before .before .before .before .before .before .if2 .left) (c .before .before .before .before .before .before .before .before .before .before .at .ensures) (c .before .before .before .before .before .before .before .before .before .at2 .ensures) (c .before .before .before .before .before .before .before .before .if3 .left))
-    (two-runs _ _ _ _ (c .before .before .before .before .before .before .visit .result) _ (hits (a .depth - 1) B (a .c) f) (hits (a .depth - 1) B (a .c) (f + 1)) (c .before .before .before .before .before .before .visit .ensures) (c .before .before .visit2 .ensures))
+    (hits-inner B (a .c) (a .n) (a .depth) f (count .result) (c11 .before .before .if1 .left) meets (first .ensures) (count .ensures) (c8 .if3 .left))
+    (two-runs _ _ _ _ (c6 .visit .result) _ (below f) (below (f + 1)) (c6 .visit .ensures) (c .before .before .visit2 .ensures))
 
 pub +visit-spec : {M : Type 1} → statement M
 +visit-spec = close μ-visit λ t. visit-lts.spec (

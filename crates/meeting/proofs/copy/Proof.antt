@@ -11,7 +11,8 @@ use Rattle.meeting.proofs.copy.Statement.{statement}
 use Rattle.meeting.proofs.copy.Tie as tie
 
 abbrev Inv-loop : tie.InvT-loop
-Inv-loop items first count list₀ k i₀ j₀ list i j = (i ≤ count) × (j ≤ length list) × (length list ≡ length list₀) × Puts list₀ k (run (itemAt items) first i) list j
+Inv-loop items first count list₀ k i₀ j₀ list i j =
+    (i ≤ count) × (j ≤ length list) × (length list ≡ length list₀) × Puts list₀ k (run (itemAt items) first i) list j
 
 abbrev μ-loop : tie.MeasureT-loop
 μ-loop items first count list₀ k i₀ j₀ list i j = count - i
@@ -41,7 +42,9 @@ loop-again : tie.Need-loop-again Inv-loop μ-loop
 loop-again c =
     let inv = c .before .before .before .before .before .before .loop .inv in
     let g = itemAt (c .before .before .before .before .before .before .before .before .before .args .items .now) in
-    (search needs, put-within _ _ _ _ _ (c .before .before .push .ensures), search needs, next-item g _ _ _ _ _ _ _ _ _ (inv .3) (c .before .before .before .at .ensures) (c .before .before .push .ensures))
+    let pushed = c .before .before .push .ensures in
+    let read = c .before .before .before .at .ensures in
+    (search needs, put-within _ _ _ _ _ pushed, search needs, next-item g _ _ _ _ _ _ _ _ _ (inv .3) read pushed)
 
 same-length : tie.Need-same-length Inv-loop μ-loop
 same-length c = c .before .loop .inv .2
