@@ -10,7 +10,7 @@ use lib.ListN.{length}
 use lib.Ieee.{Float}
 use Rattle.boundary.specs.Outline.{count}
 use Rattle.accept.specs.declared.Refusal.{Refusal}
-use Rattle.accept.specs.declared.Refusal.the-variants.{OddCount, BadCounts, TooFew, TooMany, NotFinite, OutsideField, EqualNeighbours, ZeroArea, NegativeArea, BadPoint, BadBox, BadEllipse, ShortBuffer, LongList, BadPointCount}
+use Rattle.accept.specs.declared.Refusal.the-variants.{OddCount, BadCounts, TooFew, TooMany, NotFinite, OutsideField, EqualNeighbours, ZeroArea, NegativeArea, BadPoint, BadBox, BadEllipse, ShortBuffer, LongList, BadPointCount, BadRecord, OtherUnit, BeyondReach}
 use Rattle.accept.specs.declared.Test.{Test}
 use Rattle.accept.specs.declared.Test.the-variants.{Passed, Failed}
 use Rattle.accept.specs.Refusals.{number, _refusing_when_, given, notFinite, outsideField, equalNeighbours, zeroArea, negativeArea, countTested, valuesTested, shapeTested, outlineTested}
@@ -40,6 +40,9 @@ number-above BadEllipse = omega arith
 number-above ShortBuffer = omega arith
 number-above LongList = omega arith
 number-above BadPointCount = omega arith
+number-above BadRecord = omega arith
+number-above OtherUnit = omega arith
+number-above BeyondReach = omega arith
 
 -- a test after those before it is passed where they and it are
 pub refusing-passed : (t : Test) (r : Refusal) (fails : Bool) → (t refusing r when fails) ≡ Passed → (t ≡ Passed) × (fails ≡ false)

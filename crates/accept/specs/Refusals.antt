@@ -11,7 +11,7 @@ use Rattle.boundary.specs.Boxes.{inField}
 use Rattle.lists.specs.Lists.{any}
 use Rattle.boundary.specs.Outline.{count, samePoint, edges}
 use Rattle.accept.specs.declared.Refusal.{Refusal}
-use Rattle.accept.specs.declared.Refusal.the-variants.{OddCount, BadCounts, TooFew, TooMany, NotFinite, OutsideField, EqualNeighbours, ZeroArea, NegativeArea, BadPoint, BadBox, BadEllipse, ShortBuffer, LongList, BadPointCount}
+use Rattle.accept.specs.declared.Refusal.the-variants.{OddCount, BadCounts, TooFew, TooMany, NotFinite, OutsideField, EqualNeighbours, ZeroArea, NegativeArea, BadPoint, BadBox, BadEllipse, ShortBuffer, LongList, BadPointCount, BadRecord, OtherUnit, BeyondReach}
 use Rattle.accept.specs.declared.Test.{Test}
 use Rattle.accept.specs.declared.Test.the-variants.{Passed, Failed}
 use Rattle.accept.specs.Area.{areaOf}
@@ -33,6 +33,9 @@ number BadEllipse = 12
 number ShortBuffer = 13
 number LongList = 14
 number BadPointCount = 15
+number BadRecord = 16
+number OtherUnit = 17
+number BeyondReach = 18
 
 -- ---- a test after those before it
 -- what t says; where it says that those before are passed, the test that refuses with r when `fails` holds

@@ -22,6 +22,9 @@ pub enum Refusal {
     ShortBuffer,
     LongList,
     BadPointCount,
+    BadRecord,
+    OtherUnit,
+    BeyondReach,
 }
 
 // What the tests say.

@@ -44,6 +44,9 @@ pub fn number_of(r: Refusal) -> u32
         Refusal::ShortBuffer => 13,
         Refusal::LongList => 14,
         Refusal::BadPointCount => 15,
+        Refusal::BadRecord => 16,
+        Refusal::OtherUnit => 17,
+        Refusal::BeyondReach => 18,
     }
 }
 
@@ -97,14 +100,14 @@ fn any_unfit(v: &[f64], only: bool) -> bool
 }
 
 // An edge's term of the shoelace sum.
-fn shoelace_term(e: Edge) -> f64
+pub fn shoelace_term(e: Edge) -> f64
     ensures { λ r. ⌜ r ≡ shoelaceTerm e ⌝ }
 {
     e.a.x * e.b.y - e.b.x * e.a.y
 }
 
 // Test 8.
-fn area_tested(a: f64) -> Verdict
+pub fn area_tested(a: f64) -> Verdict
     ensures { λ r. ⌜ r ≡ edgesVerdict false a ⌝ }
 {
     if a == 0.0 {
@@ -114,7 +117,7 @@ fn area_tested(a: f64) -> Verdict
 }
 
 // Tests 7 and 8 of the last edge, where the terms before it come to sum.
-fn last_tested(sum: f64, e: Edge) -> Verdict
+pub fn last_tested(sum: f64, e: Edge) -> Verdict
     ensures { λ r. ⌜ r ≡ edgesVerdict (samePoint (e .a) (e .b)) (div binary64 (add binary64 sum (shoelaceTerm e)) two) ⌝ }
 {
     if same_point(e.a, e.b) {

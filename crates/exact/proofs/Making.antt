@@ -129,20 +129,21 @@ module _ {w : List Float} {qs : List PointZ} (s : Shape w) (r : Each PointOn (ve
         let same : z ≡ total = is-unique h area-is in
         subst (Is 21 (areaOf (edges back))) (sym (nonneg-nat (<ℤ→≤ℤ above)) ∙ ap pos (natAbs-neg total ∙ ap natAbs (sym same))) back-area
 
--- ---- the theorem
-pub made-accepted : {v : List Float} (out : List Float) {n : ℕ} → OutlineOn v → makeOutcome v out .answer ≡ Count n → MadeOn v (take (2 * n) (makeOutcome v out .lent))
-unfolding makeOutcome given madeOf kept atFront turned outlineTested
-made-accepted {v} out {n} g e = go (makeTested v (length out)) refl e
+-- ---- the theorems
+-- the made outline
+pub made-on : {v : List Float} → OutlineOn v → shapeTested (kept v) ≡ Passed → MadeOn v (madeOf v)
+unfolding madeOf kept turned outlineTested
+made-on {v} g t = made (negativeArea w) refl
   where
     w : List Float
     w = kept v
 
-    made : (b : Bool) → shapeTested w ≡ Passed → negativeArea w ≡ b → MadeOn v (coordinatesOf (cond b (reverse (vertices w)) (vertices w)))
-    made true t e =
+    made : (b : Bool) → negativeArea w ≡ b → MadeOn v (coordinatesOf (cond b (reverse (vertices w)) (vertices w)))
+    made true e =
         let r = vertices-on (take-each (keptCount v) (g .on)) .1 in
         let s = shape w t in
         record { on = numbers-on (reverse-each r); accepted = back-accepted s r e; magnitude = back-magnitude s r e }
-    made false t e =
+    made false e =
         let s = shape w t in
         rw (numbers-vertices w (even-length s)) (record {
           on = record { steps = take (keptCount v) (g .steps); on = take-each (keptCount v) (g .on) };
@@ -150,9 +151,22 @@ made-accepted {v} out {n} g e = go (makeTested v (length out)) refl e
           magnitude = λ {z} m. subst (Is 21 (areaOf (edges w))) (sym (nonneg-nat (not-lt (sym (lt-is m (zero-is 21)) ∙ e)))) m;
         })
 
-    length-reversed : (b : Bool) → length (cond b (reverse (vertices w)) (vertices w)) ≡ count w
-    length-reversed true = length-reverse (vertices w) ∙ length-vertices w
-    length-reversed false = length-vertices w
+-- it has as many vertices as are kept
+made-length : (v : List Float) → length (madeOf v) ≡ 2 * count (kept v)
+unfolding madeOf turned
+made-length v = length-numbers _ ∙ ap (λ (m : ℕ). 2 * m) (as-many (negativeArea (kept v)))
+  where
+    as-many : (b : Bool) → length (cond b (reverse (vertices (kept v))) (vertices (kept v))) ≡ count (kept v)
+    as-many true = length-reverse (vertices (kept v)) ∙ length-vertices (kept v)
+    as-many false = length-vertices (kept v)
+
+-- as a call leaves it
+pub made-accepted : {v : List Float} (out : List Float) {n : ℕ} → OutlineOn v → makeOutcome v out .answer ≡ Count n → MadeOn v (take (2 * n) (makeOutcome v out .lent))
+unfolding makeOutcome given atFront
+made-accepted {v} out {n} g e = go (makeTested v (length out)) refl e
+  where
+    w : List Float
+    w = kept v
 
     passed : makeTested v (length out) ≡ Passed → shapeTested w ≡ Passed
     passed t = refusing-passed (shapeTested w) ShortBuffer (ltb (length out) (length v)) (unfold makeTested in t) .0
@@ -164,5 +178,4 @@ made-accepted {v} out {n} g e = go (makeTested v (length out)) refl e
     go (Failed r) t e = absurd (let z : _≡_ {A = ℕ} 0 1 = cc in omega arith)
     go Passed t e =
         let k : count w ≡ n = cc in
-        let ps = cond (negativeArea w) (reverse (vertices w)) (vertices w) in
-        rw (take-at (coordinatesOf ps) (drop (length (coordinatesOf ps)) out) (2 * n) (length-numbers ps ∙ ap (λ (m : ℕ). 2 * m) (length-reversed (negativeArea w) ∙ k))) (made (negativeArea w) (passed t) refl)
+        rw (take-at (madeOf v) (drop (length (madeOf v)) out) (2 * n) (made-length v ∙ ap (λ (m : ℕ). 2 * m) k)) (made-on g (passed t))

@@ -196,7 +196,7 @@ fn kept_count(v: &[f64]) -> usize
 }
 
 // Which of n vertices is written at i: from the last to the first where `back` is set.
-fn source(back: bool, n: usize, i: usize) -> usize
+pub fn source(back: bool, n: usize, i: usize) -> usize
     requires { ⌜ i < n ⌝ }
     ensures { λ r. ⌜ (r ≡ cond back (n - 1 - i) i) × (r < n) ⌝ }
 {

@@ -79,7 +79,7 @@ module _ {A : Type 0} (f : Node → List A) (w : ℕ) (size : (n : Node) → len
       let two : w * (next + 2) ≡ w * (next + 1) + length (f nr) = let e = mul-add w (next + 1) 1 in let m = mul-one w in let z = size nr in let y = ap (λ (n : ℕ). w * n) (arith-two next) in omega arith in
       let three : w * free ≡ w * (next + 2) + length (flatMap f bl) = let e = mul-add w (next + 2) (extra l) in let z = flat-length f w size bl in let y = ap (λ (n : ℕ). w * n) (length-below l at (next + 2)) in omega arith in
       four-runs (sets s (w * node) (f (nodeOf (inner b l r) at next))) (f nl) (f nr) (flatMap f bl) (flatMap f br) (w * next) (w * (next + 1)) (w * (next + 2)) (w * free) one two three
-      ∙ rw (flat-append f w size bl br)
+      ∙ rw (flat-append f bl br)
     where
       arith-two : (n : ℕ) → n + 1 + 1 ≡ n + 2
       arith-two n = omega arith
