@@ -375,6 +375,73 @@ uint32_t vk_set_nearest_many(const double *vertices, size_t vertices_len,
                              uint32_t *outlines, size_t outlines_len,
                              double *distances, size_t distances_len, uint32_t *found);
 
+/*
+ * GDSII streams.
+ *
+ * A stream is a list of bytes that holds records, one after the other. A record
+ * opens with its length in bytes, itself and the type included (two bytes,
+ * unsigned), then its type (two bytes), then its data. Every number has its high
+ * byte first. These records are read, in this order, types in hexadecimal:
+ *
+ *   HEADER 0002, BGNLIB 0102, LIBNAME 0206, UNITS 0305,
+ *   BGNSTR 0502, STRNAME 0606,
+ *   elements, none or more, each BOUNDARY 0800, LAYER 0D02, DATATYPE 0E02,
+ *     XY 1003, ENDEL 1100,
+ *   ENDSTR 0700, ENDLIB 0400
+ *
+ * Bytes after ENDLIB are ignored. UNITS has two reals of eight bytes: the first
+ * must have the bytes 3E 40 00 00 00 00 00 00, which is 1/1,024, and the second
+ * is not read. XY has x and y of each vertex, signed numbers of four bytes, in
+ * steps of 1/1,024 micrometre. Of all other records only length and type count.
+ * An element's vertices are made an outline as vk_outline_make does it: one
+ * closing vertex is dropped, and a negative outline reversed.
+ *
+ * Its call returns 0 where it is accepted, and the number of its refusal
+ * otherwise. The records are tested in their order, each in the order
+ *
+ *   16  the record is missing, cut short, of a length below 4, of a type that is
+ *       unknown or out of order, a UNITS not of 20 bytes, or an XY whose data is
+ *       no multiple of 8 bytes
+ *   17  the first real of UNITS has other bytes
+ *   18  a coordinate of XY is beyond +-1,048,576 steps; the closing vertex's too
+ *    3  the outline has fewer than three vertices, without the closing one
+ *    4  it has more than 4,096
+ *    7  two neighbouring vertices are equal, last and first included
+ *    8  the area is zero
+ *    4  the set, with this outline, has more than 1,024 outlines or 65,536
+ *       vertices
+ *
+ * and after the last record
+ *
+ *   13  vertices_len is below twice the set's vertices, or counts_len below its
+ *       outlines
+ *
+ * A refused call writes zero to both answer fields and leaves both lists as they
+ * were. No two of the things that a call is lent may overlap.
+ */
+
+/*
+ * Reads the set that a stream holds. Its outlines are in the stream's order, and
+ * a vertex of k steps has the number k / 1,024, exactly; a zero is +0. Every call
+ * over a set accepts it.
+ *   stream_len counts bytes.
+ *   refusals: 16, 17, 18, 3, 4, 7, 8, as above, then 13.
+ *   vertices, counts: get the set, as the calls over a set take it; places past
+ *     it stay as they were. 131,072 numbers and 1,024 counts are always enough.
+ *   outline_count, vertex_count: how many outlines and vertices it has; both are
+ *     0 where there are no elements.
+ * A host reads a stream, then asks about the set:
+ *
+ *   if (vk_gdsii_read(stream, stream_len, vertices, 131072, counts, 1024,
+ *                     &outlines, &total) == 0)
+ *       vk_set_nearest(vertices, 2 * (size_t)total, counts, outlines, x, y,
+ *                      corners, 2044, links, 1022, items, 1024,
+ *                      &found, &outline, &distance);
+ */
+uint32_t vk_gdsii_read(const uint8_t *stream, size_t stream_len,
+                       double *vertices, size_t vertices_len, uint32_t *counts, size_t counts_len,
+                       uint32_t *outline_count, uint32_t *vertex_count);
+
 #ifdef __cplusplus
 }
 #endif

@@ -1,11 +1,12 @@
 // Replays cases of the comparison with the Rust: reads calls from standard input, one a line, makes
 // each and writes its answer, one a line. oracle/sample writes the calls and the Rust's answers. A
 // call is an operation's name and its arguments, floats as their bits in hexadecimal, a list as its
-// length and its floats.
+// length and its floats or bytes.
 mod indexes;
 mod numbers;
 mod outlines;
 mod sets;
+mod streams;
 
 use sample::read;
 use sample::read::Reader;
@@ -15,6 +16,8 @@ const SQRT: u64 = 0x7371_7274;
 
 const HYPOT: u64 = 0x68_7970_6f74;
 
+const GDSII: u64 = 0x67_6473_6969;
+
 // Makes the call that the name stands for; its arguments are what the reader has next.
 fn answer(name: u64, buf: &mut [u8], r: Reader) -> Reader {
     if name == SQRT {
@@ -22,6 +25,9 @@ fn answer(name: u64, buf: &mut [u8], r: Reader) -> Reader {
     }
     if name == HYPOT {
         return numbers::hypot(buf, r);
+    }
+    if name == GDSII {
+        return streams::answer(buf, r);
     }
     outlines::answer(name, buf, r)
 }

@@ -111,7 +111,7 @@ fn ellipse(v: &[f64]) {
 }
 
 // A count of places, of which there are `most`.
-fn places(n: u64, most: usize) -> usize
+pub fn places(n: u64, most: usize) -> usize
     ensures { λ r. ⌜ r ≤ most ⌝ }
 {
     let m = (n % 256) as usize;

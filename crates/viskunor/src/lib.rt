@@ -5,6 +5,7 @@ pub mod fills;
 pub mod indexes;
 pub mod outlines;
 pub mod sets;
+pub mod streams;
 
 ghost use mathlib.Core.Path.{_≡_};
 ghost use Rattle.number.specs.Root.{sqrtOf};
