@@ -7,10 +7,10 @@ rounds = int(sys.argv[1])
 
 
 def rows(name):
-    """The rows of a printed table: (operation, inputs) -> (ours, Rust)."""
+    """The rows of a printed table, up to an empty line: (operation, inputs) -> (ours, Rust)."""
     found = {}
     with open(name, encoding='utf-8') as file:
-        for line in file.readlines()[1:]:
+        for line in file.read().split('\n\n')[0].splitlines()[1:]:
             ours, rust, _ = line[51:].split()
             found[line[:51].rstrip()] = (float(ours), float(rust))
     return found

@@ -27,10 +27,11 @@ void expect_word(const char *call, int line, uint32_t got, uint32_t want);
 #define COUNT(list) ((int)(sizeof(list) / sizeof(list)[0]))
 #define LIST(list) list, sizeof(list) / sizeof(list)[0]
 
-/* trees.c, sets.c, nans.c and zooms.c */
+/* trees.c, sets.c, nans.c, zooms.c and streams.c */
 void trees(void);
 void sets(void);
 void nans(void);
 void zooms(void);
+void streams(void);
 
 #endif

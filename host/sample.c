@@ -1,8 +1,11 @@
 /*
  * A sample host: reads outlines, points and ellipses from a text file, calls
- * every operation of Viskunor on them, prints what it answers, and draws it.
- *   sample FILE PICTURE
- * FILE is like host/sample.txt; PICTURE is where the drawing goes, an SVG.
+ * every operation of Viskunor on them, prints what it answers, and draws it;
+ * then reads the outlines of a GDSII stream, asks about the same points, and
+ * draws that.
+ *   sample FILE PICTURE STREAM PICTURE
+ * FILE is like host/sample.txt, STREAM like host/sample.gds; a PICTURE is where
+ * a drawing goes, an SVG.
  */
 #include <stdio.h>
 #include <string.h>
@@ -37,6 +40,9 @@ const char *reason(uint32_t number)
     case 13: return "a lent list that is too short";
     case 14: return "a clipped list that is too long for a half of the buffer";
     case 15: return "an odd count of points' numbers, or too many points";
+    case 16: return "a record that is missing, cut short, unknown, out of order or of a wrong length";
+    case 17: return "another unit than 1/1,024";
+    case 18: return "a coordinate beyond 1,048,576 steps";
     default: return "?";
     }
 }
@@ -250,24 +256,55 @@ static int picture(const char *path, const scene *s)
     return 0;
 }
 
-int main(int argc, char **argv)
+/* The stream's outlines, and the points that are asked about. */
+static int read_stream(const char *path, const scene *asked, scene *s)
 {
-    static scene s;
-    FILE *in;
-    size_t i;
-    int bad;
-    if (argc != 3) {
-        printf("usage: sample FILE PICTURE\n");
-        return 2;
-    }
-    in = fopen(argv[1], "r");
+    static uint8_t bytes[MOST_BYTES];
+    uint32_t outlines, vertices, number;
+    size_t len;
+    FILE *in = fopen(path, "rb");
     if (in == NULL) {
-        printf("%s cannot be read.\n", argv[1]);
+        printf("%s cannot be read.\n", path);
         return 1;
     }
-    bad = read_scene(in, &s);
+    len = fread(bytes, 1, sizeof bytes, in);
     fclose(in);
-    if (bad)
+    number = vk_gdsii_read(bytes, len, s->vertices, MOST_NUMBERS, s->counts, MOST_OUTLINES, &outlines, &vertices);
+    if (number != 0) {
+        refused("The stream", number);
+        return 1;
+    }
+    s->outlines = outlines;
+    s->numbers = 2 * (size_t)vertices;
+    memcpy(s->points, asked->points, sizeof s->points);
+    s->asked = asked->asked;
+    printf("%s, %u bytes, holds %u outlines of %u vertices.\n", path, (unsigned)len, (unsigned)outlines,
+           (unsigned)vertices);
+    return 0;
+}
+
+static int of_text(const char *path, scene *s)
+{
+    FILE *in = fopen(path, "r");
+    int bad;
+    if (in == NULL) {
+        printf("%s cannot be read.\n", path);
+        return 1;
+    }
+    bad = read_scene(in, s);
+    fclose(in);
+    return bad;
+}
+
+int main(int argc, char **argv)
+{
+    static scene s, layout;
+    size_t i;
+    if (argc != 5) {
+        printf("usage: sample FILE PICTURE STREAM PICTURE\n");
+        return 2;
+    }
+    if (of_text(argv[1], &s) != 0)
         return 1;
     printf("The square root of 2 is %.17g, and the length of (3, 4) is %.17g.\n", vk_sqrt(2.0), vk_hypot(3.0, 4.0));
     for (i = 0; i < s.outlines; i++)
@@ -275,5 +312,10 @@ int main(int argc, char **argv)
     tree(&s);
     at_points(&s);
     ellipses(&s);
-    return picture(argv[2], &s);
+    if (picture(argv[2], &s) != 0 || read_stream(argv[3], &s, &layout) != 0)
+        return 1;
+    for (i = 0; i < layout.outlines; i++)
+        measures(&layout, i);
+    at_points(&layout);
+    return picture(argv[4], &layout);
 }

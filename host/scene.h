@@ -1,4 +1,4 @@
-/* What the sample host reads from its file: outlines, query points and ellipses. */
+/* What the sample host reads from its files: outlines, query points and ellipses. */
 #ifndef SCENE_H
 #define SCENE_H
 
@@ -10,6 +10,7 @@
 #define MOST_NUMBERS 4096
 #define MOST_POINTS 32
 #define MOST_ELLIPSES 8
+#define MOST_BYTES 65536 /* of a stream file */
 
 typedef struct { double x, y; } place;
 typedef struct { double x, y, semi_x, semi_y; } ellipse;

@@ -15,9 +15,13 @@
 #define PAINT 0xa5
 
 static double outline[2 * 4096], outlines[2 * 65536], boxes[4096], work[16 * 4096], corners[2044];
-static double points[512], distances[256];
+static double points[512], distances[256], numbers[2 * 65536];
 static uint32_t counts[1024], links[1022], items[1024], list[1024];
 static vk_node nodes[511];
+
+/* A GDSII stream of the same outlines, each with its first vertex again at the end. */
+static uint8_t stream[128 + 1024 * 560];
+static size_t stream_len;
 
 /* What each call answers into. */
 static double d0, d1, d2, d3;
@@ -58,6 +62,11 @@ static uint32_t nearest_many(void)
 {
     return vk_set_nearest_many(outlines, 2 * 65536, counts, 1024, points, 512, corners, 2044, links, 1022, items, 1024,
                                list, 256, distances, 256, &n0);
+}
+
+static uint32_t read_stream(void)
+{
+    return vk_gdsii_read(stream, stream_len, numbers, 2 * 65536, list, 1024, &n0, &n1);
 }
 
 typedef struct { const char *name; uint32_t (*call)(void); uint32_t number; } measured;
@@ -115,6 +124,45 @@ static void prepare(void)
     }
 }
 
+static void put(uint32_t n, int size)
+{
+    while (size-- > 0)
+        stream[stream_len++] = (uint8_t)(n >> 8 * size & 255);
+}
+
+/* A record whose data is zeros. */
+static void record(uint32_t type, size_t data)
+{
+    put((uint32_t)data + 4, 2);
+    put(type, 2);
+    stream_len += data;
+}
+
+static void write_stream(void)
+{
+    int i, k;
+    record(0x0002, 2);
+    record(0x0102, 24);
+    record(0x0206, 4);
+    record(0x0305, 16);
+    stream[stream_len - 16] = 0x3e;
+    stream[stream_len - 15] = 0x40;
+    record(0x0502, 24);
+    record(0x0606, 4);
+    for (k = 0; k < 1024; k++) {
+        record(0x0800, 0);
+        record(0x0d02, 2);
+        record(0x0e02, 2);
+        put(4 + 65 * 8, 2);
+        put(0x1003, 2);
+        for (i = 0; i < 2 * 65; i++)
+            put((uint32_t)(outlines[128 * k + i % 128] * 1024), 4);
+        record(0x1100, 0);
+    }
+    record(0x0700, 0);
+    record(0x0400, 0);
+}
+
 int main(void)
 {
     static measured all[] = {
@@ -124,12 +172,13 @@ int main(void)
         { "vk_outline_distance", distance, 0 }, { "vk_outline_fill", fill, 0 },
         { "vk_ellipse_nearest", nearest_point, 0 }, { "vk_index_build", build, 0 }, { "vk_index_nodes", records, 0 },
         { "vk_index_meeting", meeting, 0 }, { "vk_set_any_at", any_at, 0 }, { "vk_set_nearest", nearest, 0 },
-        { "vk_set_nearest_many", nearest_many, 0 }
+        { "vk_set_nearest_many", nearest_many, 0 }, { "vk_gdsii_read", read_stream, 0 }
     };
     static measured none = { "nothing", nothing, 0 };
     size_t i, empty;
     int bad = 0;
     prepare();
+    write_stream();
     empty = used_by(&none);
     for (i = 0; i < sizeof all / sizeof *all; i++) {
         size_t used = used_by(&all[i]);

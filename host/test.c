@@ -703,6 +703,7 @@ int main(void)
     sets();
     nans();
     zooms();
+    streams();
     printf("%lu answers compared, %lu wrong\n", checks, failures);
     return failures != 0;
 }

@@ -4,7 +4,8 @@
 //! Both sides are called, not inlined, but in the rows that say so. A chain makes each call wait for
 //! the answer before it (latency); a stream does not (throughput). Each figure is the best of several
 //! repetitions. Arguments name the groups to time (numbers, outlines, ellipses, fills, indexes, sets,
-//! many); none means all. With `--cfg without_many` there is no group many: earlier libraries lack its call.
+//! many, streams); none means all. With `--cfg without_many` there is no group many, with
+//! `--cfg without_streams` no group streams: earlier libraries lack their calls.
 #![allow(dead_code)] // the oracle's modules hold more than is timed yet
 
 mod ellipses;
@@ -20,9 +21,13 @@ mod original;
 mod outlines;
 #[path = "../../oracle/src/random.rs"]
 mod random;
+#[path = "../../oracle/src/reader.rs"]
+mod reader;
 mod sets;
 #[path = "../../oracle/src/standins.rs"]
 mod standins;
+#[cfg(not(without_streams))]
+mod streams;
 mod table;
 
 fn main() {
@@ -37,6 +42,8 @@ fn main() {
         ("sets", sets::rows),
         #[cfg(not(without_many))]
         ("many", many::rows),
+        #[cfg(not(without_streams))]
+        ("streams", streams::rows),
     ];
     let mut table = table::Table::new();
     for (name, rows) in groups {

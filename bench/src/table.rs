@@ -60,16 +60,20 @@ struct Row {
     rust: f64,
 }
 
-pub struct Table(Vec<Row>);
+#[derive(Default)]
+pub struct Table {
+    rows: Vec<Row>,
+    notes: Vec<String>,
+}
 
 impl Table {
     pub fn new() -> Table {
-        Table(Vec::new())
+        Table::default()
     }
 
     /// One line: what was timed, and the ns per call of both sides.
     pub fn row(&mut self, operation: &str, inputs: &str, ours: f64, rust: f64) {
-        self.0.push(Row {
+        self.rows.push(Row {
             operation: operation.into(),
             inputs: inputs.into(),
             ours,
@@ -77,12 +81,17 @@ impl Table {
         });
     }
 
+    /// A line below the table.
+    pub fn note(&mut self, text: &str) {
+        self.notes.push(text.into());
+    }
+
     pub fn print(&self) {
         println!(
             "{:<10} {:<40} {:>12} {:>12} {:>8}",
             "operation", "inputs", "ours ns", "Rust ns", "ratio"
         );
-        for r in &self.0 {
+        for r in &self.rows {
             println!(
                 "{:<10} {:<40} {:>12.2} {:>12.2} {:>8.2}",
                 r.operation,
@@ -91,6 +100,9 @@ impl Table {
                 r.rust,
                 r.ours / r.rust
             );
+        }
+        if !self.notes.is_empty() {
+            println!("\n{}", self.notes.join("\n"));
         }
     }
 }

@@ -178,6 +178,17 @@ mod exports {
             distances_len: usize,
             found: *mut u32,
         ) -> u32;
+
+        pub fn vk_gdsii_read(
+            stream: *const u8,
+            stream_len: usize,
+            vertices: *mut f64,
+            vertices_len: usize,
+            counts: *mut u32,
+            counts_len: usize,
+            outline_count: *mut u32,
+            vertex_count: *mut u32,
+        ) -> u32;
     }
 }
 
@@ -462,6 +473,27 @@ pub fn set_nearest_many(
             address_mut(distances),
             distances.len(),
             found,
+        )
+    }
+}
+
+/// The lists get the set that the stream holds; the fields are the numbers of outlines and vertices.
+#[inline]
+pub fn gdsii_read(
+    stream: &[u8],
+    (vertices, counts): (&mut [f64], &mut [u32]),
+    [outlines, total]: &mut [u32; 2],
+) -> u32 {
+    unsafe {
+        exports::vk_gdsii_read(
+            address(stream),
+            stream.len(),
+            address_mut(vertices),
+            vertices.len(),
+            address_mut(counts),
+            counts.len(),
+            outlines,
+            total,
         )
     }
 }

@@ -6,8 +6,9 @@
 //!                         outlines, with thirteen calls on each, a fifth as many outlines with a
 //!                         cell to fill, a tenth as many ellipses, and a twentieth as many lists
 //!                         of boxes, with three calls on each, and sets of outlines, with two;
-//!                         a fiftieth as many sets with many points, and an eightieth as many
-//!                         lists of boxes with two cells, one inside the other
+//!                         a fiftieth as many sets with many points, an eightieth as many
+//!                         lists of boxes with two cells, one inside the other, and a fifth as
+//!                         many GDSII streams
 //!          --sample N     no comparison: writes about N cases with the Rust's answers ..
 //!          --to FOLDER    .. to FOLDER/stdin and FOLDER/stdout
 //!
@@ -20,12 +21,14 @@ mod buffers;
 mod ellipses;
 mod fills;
 mod indexes;
+mod layouts;
 mod library;
 mod many;
 mod numbers;
 mod original;
 mod outlines;
 mod random;
+mod reader;
 mod refusals;
 mod report;
 mod sample;
@@ -33,6 +36,7 @@ mod sets;
 mod shapes;
 mod smallest;
 mod standins;
+mod streams;
 mod zooms;
 
 use std::path::PathBuf;
@@ -79,6 +83,7 @@ fn write_sample(seed: u64, count: u64, folder: PathBuf) -> ExitCode {
     indexes::sample(&mut out, seed, count / 40);
     sets::sample(&mut out, seed, count / 40);
     many::sample(&mut out, seed, count / 50);
+    streams::sample(&mut out, seed, count / 20);
     match out.write(&folder) {
         Ok(()) => ExitCode::SUCCESS,
         Err(e) => {
@@ -100,6 +105,7 @@ fn compare(seed: u64, cases: u64) -> ExitCode {
     sets::compare(&mut report, seed, cases / 20);
     many::compare(&mut report, seed, cases / 50);
     zooms::compare(&mut report, seed, cases / 80);
+    streams::compare(&mut report, seed, cases / 5);
     let equal = report.finish();
     smallest::print();
     println!("{:.1} s", start.elapsed().as_secs_f64());

@@ -53,6 +53,11 @@ pub mod geometry {
             self.vertices.iter().flat_map(|p| um(*p)).collect()
         }
 
+        /// The vertices, added to the end of a list of x and y.
+        pub fn add_to(&self, list: &mut Vec<f64>) {
+            list.extend(self.vertices.iter().flat_map(|p| um(*p)));
+        }
+
         /// The boundary, as `fill` takes it.
         pub fn boundary(&self) -> Vec<Vec<Piece>> {
             self.loops()

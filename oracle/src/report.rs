@@ -6,7 +6,7 @@ struct Count {
     compared: u64,
     wrong: u64,
     /// How many calls each refusal met; 0 counts those accepted.
-    refusals: [u64; 16],
+    refusals: [u64; 32],
 }
 
 pub struct Report {
@@ -50,7 +50,7 @@ impl Report {
                 operation,
                 compared: 0,
                 wrong: 0,
-                refusals: [0; 16],
+                refusals: [0; 32],
             });
         }
     }

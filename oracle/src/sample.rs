@@ -140,6 +140,30 @@ impl Sample {
         self.set("nearest_many", set, &asked, &answer);
     }
 
+    /// A call that reads a stream, whose bytes come as a list, into lists of ones and nines as long as `vertices` and
+    /// `counts`, which it turns into these; the fields are the number and how many outlines and vertices there are.
+    pub fn gdsii_read(
+        &mut self,
+        stream: &[u8],
+        [number, outlines, total]: [u32; 3],
+        vertices: &[f64],
+        counts: &[u32],
+    ) {
+        let mut call = format!("gdsii {:x}", stream.len());
+        for b in stream {
+            call += &format!(" {b:x}");
+        }
+        self.calls += &format!("{call} {:x} {:x}\n", vertices.len(), counts.len());
+        let mut answer = format!("{number:x} {outlines:x} {total:x}");
+        for x in vertices {
+            answer += &format!(" {}", hex(*x));
+        }
+        for n in counts {
+            answer += &format!(" {n:x}");
+        }
+        self.answers += &format!("{answer}\n");
+    }
+
     pub fn write(&self, folder: &Path) -> std::io::Result<()> {
         fs::write(folder.join("stdin"), &self.calls)?;
         fs::write(folder.join("stdout"), &self.answers)
