@@ -34,3 +34,10 @@ sq-mono {x} {y} h k = le-from (x ∷ y ∷ []) (le (mul-le h k) ∷ le (mul-le k
 -- a bound by its square
 pub le-of-sq : (x : ℤ) {y : ℤ} → pos 0 ≦ y → x *ℤ x ≦ y *ℤ y → x ≦ y
 le-of-sq x h k = within-of-sq x h k .high
+
+-- bounds of two magnitudes, multiplied
+pub within-product : {x a y b : ℤ} → Within x a → Within y b → Within (x *ℤ y) (a *ℤ b)
+within-product {x} {a} {y} {b} h k = record {
+  low = le-from (x ∷ a ∷ y ∷ b ∷ []) (le (mul-le (h .low) (k .low)) ∷ le (mul-le (h .high) (k .high)) ∷ []) (search quote depth 30) (omega arith);
+  high = le-from (x ∷ a ∷ y ∷ b ∷ []) (le (mul-le (h .low) (k .high)) ∷ le (mul-le (h .high) (k .low)) ∷ []) (search quote depth 30) (omega arith);
+}

@@ -4,7 +4,10 @@ pub mod line;
 
 ghost use mathlib.Core.Path.{_≡_};
 ghost use Prim.Native.Nat.{_<_};
-ghost use Rattle.boundary.specs.Boxes.{lesser, greater, outAlong};
+ghost use lib.Dec.{T};
+ghost use lib.Ieee.{binary64, fits};
+ghost use Rattle.number.specs.Exact.{Doubles};
+ghost use Rattle.boundary.specs.Boxes.{DoubleBox, lesser, greater, outAlong};
 ghost use Rattle.boundary.specs.Outline.{count, after, vertexAt, samePoint, edgeAt, edges};
 ghost use Rattle.boundary.specs.Line.{middle};
 ghost use Rattle.boundary.specs.Length.{edgeLength, lengthOf};
@@ -40,6 +43,32 @@ pub struct Near {
 pub struct Distance {
     pub d: f64,
     pub v: Point,
+}
+
+// A number that is held is an `f64`.
+fn held(x: f64)
+    ensures { λ _. ⌜ T (fits binary64 x) ⌝ }
+{}
+
+// So every number of a list is. The loop does nothing else.
+pub fn all_held(v: &[f64])
+    ensures { λ _. ⌜ Doubles (now (v .entry)) ⌝ }
+{
+    let mut i = 0;
+    while i < v.len() {
+        held(lists::number_at(v, i));
+        i += 1;
+    }
+}
+
+// So the corners of a box are.
+pub fn box_held(b: Bounds)
+    ensures { λ _. ⌜ DoubleBox b ⌝ }
+{
+    held(b.min.x);
+    held(b.min.y);
+    held(b.max.x);
+    held(b.max.y);
 }
 
 // Vertex i of an outline's numbers.

@@ -9,14 +9,7 @@ use lib.IntN.{ℤ, pos, negℤ, _+ℤ_, _-ℤ_, _*ℤ_}
 use Rattle.algebra.specs.Quote.{quote}
 use Rattle.algebra.specs.Order.{_≦_, _≺_, Within, within-of-sq, ≤ℤ-or-<ℤ, mul-le, mul-pos, mul-nonneg, sq-nonneg, <ℤ→≤ℤ}
 use Rattle.algebra.specs.Lin.{le, lt, eq, le-from, lt-from, false-from}
-use Rattle.algebra.specs.Mono.{mul-cancel, mul-mono, within-cancel, le-of-sq}
-
--- bounds of two magnitudes, multiplied
-pub within-product : {x a y b : ℤ} → Within x a → Within y b → Within (x *ℤ y) (a *ℤ b)
-within-product {x} {a} {y} {b} h k = record {
-  low = le-from (x ∷ a ∷ y ∷ b ∷ []) (le (mul-le (h .low) (k .low)) ∷ le (mul-le (h .high) (k .high)) ∷ []) (search quote depth 30) (omega arith);
-  high = le-from (x ∷ a ∷ y ∷ b ∷ []) (le (mul-le (h .low) (k .high)) ∷ le (mul-le (h .high) (k .low)) ∷ []) (search quote depth 30) (omega arith);
-}
+use Rattle.algebra.specs.Mono.{within-product, mul-cancel, mul-mono, within-cancel, le-of-sq}
 
 -- ---- the parameter. R is dot / l2 rounded, where 1 is 2 ^ 52 E
 module _ {E l2 : ℤ} (dot : ℤ) (E0 : pos 0 ≺ E) (L0 : pos 0 ≺ l2) where

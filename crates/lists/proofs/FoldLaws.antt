@@ -1,6 +1,6 @@
 -- Folds: by a loop, in which what is left to fold gives the final answer; over two lists one after the other; and whether some member passes a test. Assumes nothing.
 use mathlib.Core.Path.{_≡_, refl, sym, ap, _∙_, subst}
-use mathlib.Core.Bool.{Bool, true, false, cond, _||_, true≢false}
+use mathlib.Core.Bool.{Bool, true, false, cond, _&&_, _||_, true≢false}
 use mathlib.Core.List.{List, [], _∷_, _++_}
 use Prim.Native.Nat.{ℕ, zero, suc, _+_, _-_, _≤_, _<_, min}
 use native.Mathlib.Numerals.{add-one}
@@ -45,6 +45,11 @@ module _ {A B : Type 0} (f : A → B → A) where
   pub fold-run-last : (g : ℕ → B) (a : A) (i k : ℕ) → fold f a (run g i (k + 1)) ≡ f (fold f a (run g i k)) (g (i + k))
   unfolding fold
   fold-run-last g a i k = rw (add-one k, run-last g i k) (fold-append a (run g i k) (g (i + k) ∷ []))
+
+-- both hold where the two together do
+pub and-both : (a b : Bool) → (a && b) ≡ true → (a ≡ true) × (b ≡ true)
+and-both true b h = (refl, h)
+and-both false b h = absurd (true≢false (sym h))
 
 -- neither of two holds where one of them or the other does not
 pub or-none : (a b : Bool) → (a || b) ≡ false → (a ≡ false) × (b ≡ false)

@@ -3,6 +3,7 @@ use mathlib.Core.Path.{_≡_, refl, ap, _∙_}
 use mathlib.Core.List.{List, [], _∷_, _++_, map, reverse, reverse-cons}
 use Prim.Native.Nat.{ℕ, zero, suc, _+_, _-_, _≤_, _<_}
 use native.Mathlib.Nat.{add-zero}
+use native.Mathlib.Decide.{ℕ-discrete}
 use native.Mathlib.Omega.{arith}
 use lib.ListN.{length, getD, take, drop}
 use lib.Seq.{take-at, drop-at}
@@ -71,3 +72,11 @@ pub map-run : {A B : Type 0} (h : A → B) (g : ℕ → A) (i k : ℕ) → map h
 unfolding run
 map-run h g i zero = refl
 map-run h g i (suc k) = rw (map-run h g (suc i) k)
+
+-- what holds of every number below i, and of i
+pub one-more : (P : ℕ → Type 0) (i : ℕ) → ((j : ℕ) → j < i → P j) → P i → (j : ℕ) → j < i + 1 → P j
+one-more P i h p j l = go (ℕ-discrete j i)
+  where
+    go : Dec (j ≡ i) → P j
+    go (yes e) = rw e p
+    go (no a) = h j (omega arith)

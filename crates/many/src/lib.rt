@@ -168,7 +168,7 @@ fn answer_in(
         ≡ manyLeft (now (v .entry)) (now (counts .entry)) (now (ps .entry))
         (lentAs (now (corners .entry)) (now (links .entry)) (now (items .entry)) (now (near .entry)) (now (distances .entry))) ⌝ }
 {
-    search::all_held(v);
+    boundary::all_held(v);
     put_starts(counts, starts);
     frame::index_in(v, counts, boxes, corners, links, items);
     put_answers(

@@ -53,7 +53,7 @@ fn found_in(
     ensures { λ r. ⌜ record { answer = r; lent = buffer (now (corners .exit)) (now (links .exit)) (now (items .exit)) }
         ≡ worked (leastIn (outlinesOf (now (v .entry)) (now (counts .entry))) p) (buffer (now (corners .entry)) (now (links .entry)) (now (items .entry))) ⌝ }
 {
-    search::all_held(v);
+    boundary::all_held(v);
     outlines::put_starts(counts, starts);
     frame::index_in(v, counts, boxes, corners, links, items);
     let best = search::search(v, counts, starts, boxes, p, corners, links, items);

@@ -18,17 +18,17 @@ use Rattle.number.proofs.MagnitudeOrder.{above-sign}
 use Rattle.number.proofs.Basics.{one-of}
 
 -- ---- against a magnitude
-none-of : (b : Bool) → (T b → ⊥) → b ≡ false
-none-of true f = absurd (f tt)
-none-of false f = refl
+pub never-true : (b : Bool) → (T b → ⊥) → b ≡ false
+never-true true f = absurd (f tt)
+never-true false f = refl
 
 max-plain : (s m : Float) → T (not (isNan s)) → signBit m ≡ false → maxOf s m ≡ cond (le s m) m s
 unfolding maxOf standsBefore
 max-plain s m n e = rw (is-false (isNan s) n, e) (go (isNan m) refl (lt m s) refl (eq m s))
   where
     go : (a : Bool) → isNan m ≡ a → (b : Bool) → lt m s ≡ b → (c : Bool) → cond (a || (b || (c && false))) s m ≡ cond (le s m) m s
-    go true f b g c = rw (none-of (le s m) (λ h. subst (λ (a : Bool). T (not a)) f (right-not-nan s m h)))
-    go false f true g c = rw (none-of (le s m) (λ h. below-not-le m s (subst T (sym g) tt) h))
+    go true f b g c = rw (never-true (le s m) (λ h. subst (λ (a : Bool). T (not a)) f (right-not-nan s m h)))
+    go false f true g c = rw (never-true (le s m) (λ h. below-not-le m s (subst T (sym g) tt) h))
     go false f false g true = rw (is-true (le s m) (not-below m s (subst (λ (a : Bool). T (not a)) (sym f) tt) n g))
     go false f false g false = rw (is-true (le s m) (not-below m s (subst (λ (a : Bool). T (not a)) (sym f) tt) n g))
 
@@ -45,7 +45,7 @@ one-not-zero t e h = go t h
     go false h = rw (le-ltb (1 * down e) (0 * up e * 1) (let q = zero-mul (up e) in omega arith), apart) at h
 
 from-one : (s : Float) → T (le one s) → (t : Bool) (e : ℤ) → le s (fin t 0 e) ≡ false
-from-one s h t e = none-of (le s (fin t 0 e)) (λ k. one-not-zero t e (le-through one s (fin t 0 e) h k))
+from-one s h t e = never-true (le s (fin t 0 e)) (λ k. one-not-zero t e (le-through one s (fin t 0 e) h k))
 
 -- m or its opposite, the one that is not below zero
 abbrev pub magnitude : Float → Float

@@ -3,9 +3,7 @@ pub mod heap;
 
 ghost use mathlib.Core.Path.{_≡_};
 ghost use Prim.Native.Nat.{ℕ, _+_, _<_, _^_};
-ghost use lib.Dec.{T};
 ghost use lib.ListN.{length};
-ghost use lib.Ieee.{binary64, fits};
 ghost use Rattle.boundary.specs.Boxes.{gapSquaresOf};
 ghost use Rattle.lists.specs.Lists.{run, In};
 ghost use Rattle.distance.specs.Search.{gapSquares};
@@ -14,7 +12,6 @@ ghost use Rattle.search.specs.Heap.{entryAt, Heaped};
 ghost use Rattle.boxes.specs.BoxLists.{boxAt};
 ghost use Rattle.nodes.specs.Layout.{itemAt};
 ghost use Rattle.index.specs.Buffer.{buffer};
-ghost use Rattle.number.specs.Exact.{Doubles};
 ghost use Rattle.set.specs.Set.{outlinesOf};
 ghost use Rattle.set.specs.Answers.{Boxed};
 ghost use Rattle.search.specs.Least.{magnitudeAt, leastIn};
@@ -86,22 +83,6 @@ fn improve(kept: Kept, k: u32, d: f64, far: f64) -> Kept
         };
     }
     kept
-}
-
-// A number that is held is an `f64`.
-fn held(x: f64)
-    ensures { λ _. ⌜ T (fits binary64 x) ⌝ }
-{}
-
-// So every number of a list is. The loop does nothing else.
-pub fn all_held(v: &[f64])
-    ensures { λ _. ⌜ Doubles (now (v .entry)) ⌝ }
-{
-    let mut i = 0;
-    while i < v.len() {
-        held(lists::number_at(v, i));
-        i += 1;
-    }
 }
 
 // How far p is outside outline k's box, widened, squared.

@@ -8,7 +8,7 @@ use borrow.Author.Tests.{ltb-false, le-ltb, eq-eqb, eqb-true}
 use lib.Dec.{eqb, ltb}
 use lib.ListN.{length, take, drop, length-append, length-drop, take-append-drop}
 use lib.Seq.{length-take-le, take-append-seam, drop-append-seam}
-use Rattle.lists.proofs.FoldLaws.{or-none}
+use Rattle.lists.proofs.FoldLaws.{and-both, or-none}
 use Rattle.stream.specs.Bytes.{pairOf}
 use Rattle.stream.specs.Format.{Record}
 use Rattle.stream.specs.Records.{recordSize, recordType, recordData, afterRecord, cutShort, sameBytes}
@@ -82,10 +82,6 @@ record-shortens {t} {d} {s} {r} q =
     omega (arith, k, e, l, i)
 
 -- ---- equal bytes
-and-both : (a b : Bool) → (a && b) ≡ true → (a ≡ true) × (b ≡ true)
-and-both true b e = (refl, e)
-and-both false b e = absurd (true≢false (sym e))
-
 pub same-bytes-true : (x y : List ℕ) → sameBytes x y ≡ true → x ≡ y
 unfolding sameBytes
 same-bytes-true [] [] e = refl

@@ -1,18 +1,16 @@
 -- `accept::refusals::edges_tested` meets its contract: what was summed so far and the edges that are left give both answers. Assumes nothing.
 use mathlib.Core.Path.{_≡_, sym, ap, _∙_}
 use mathlib.Core.Bool.{Bool, false, _||_}
-use mathlib.Core.List.{List}
-use Prim.Native.Nat.{ℕ, _+_, _-_, _≤_, _<_}
+use Prim.Native.Nat.{_-_, _<_}
 use native.Mathlib.Nat.{sub-zero}
 use native.Mathlib.Omega.{arith}
 use borrow.Author.Needs.{needs}
-use borrow.Author.Tests.{eq-eqb, ne-eqb}
 use denote.Ref.{now}
 use lib.Ieee.{Float, binary64, add, ofBits}
-use Rattle.boundary.specs.declared.Point.{Point}
 use Rattle.boundary.specs.declared.Edge.{Edge}
 use Rattle.lists.specs.Lists.{run, fold, any, total}
 use Rattle.boundary.specs.Outline.{samePoint, count, vertexAt, edgeAt, edges}
+use Rattle.boundary.proofs.OutlineLaws.{next-edge, last-edge}
 use Rattle.lists.proofs.FoldLaws.{fold-run-next, fold-run-end, fold-found}
 use Rattle.accept.specs.Area.{shoelaceTerm, areaOf}
 use Rattle.accept.specs.Verdicts.{edgesVerdict}
@@ -38,14 +36,6 @@ Inv-loop v n sum₀ first a₀ i₀ sum a i =
 
 abbrev μ-loop : tie.MeasureT-loop
 μ-loop v n sum₀ first a₀ i₀ sum a i = count v - i
-
--- the edge from a to b is edge i, where another follows, and where it is the last
-module _ (v : List Float) (i : ℕ) (a b : Point) (l : i < count v) (start : a ≡ vertexAt v i) where
-  next-edge : i + 1 < count v → b ≡ vertexAt v (i + 1) → _≡_ {A = Edge} (record { a = a; b = b }) (edgeAt v i)
-  next-edge h end = rw (ne-eqb (i + 1) (count v) (λ e. omega arith), start, end)
-
-  last-edge : count v ≤ i + 1 → b ≡ vertexAt v 0 → _≡_ {A = Edge} (record { a = a; b = b }) (edgeAt v i)
-  last-edge h end = rw (eq-eqb (i + 1) (count v) (omega arith), start, end)
 
 area-tested-requires : tie.Need-area-tested-requires Inv-loop μ-loop
 area-tested-requires c κs = search needs

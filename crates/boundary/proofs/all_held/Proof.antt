@@ -1,14 +1,13 @@
--- `search::all_held` meets its contract: the numbers read so far are held. Assumes nothing.
-use mathlib.Core.Path.{_≡_}
-use Prim.Native.Nat.{ℕ, _+_, _-_, _≤_, _<_}
-use native.Mathlib.Decide.{ℕ-discrete}
+-- `boundary::all_held` meets its contract: the numbers read so far are held. Assumes nothing.
+use Prim.Native.Nat.{ℕ, _-_, _≤_, _<_}
 use native.Mathlib.Omega.{arith}
+use Rattle.lists.proofs.RunLaws.{one-more}
 use borrow.Author.Needs.{needs}
 use lib.Dec.{T}
 use lib.ListN.{length, getD}
 use lib.Ieee.{nan, binary64, fits}
-use Rattle.search.proofs.all_held.Statement.{statement}
-use Rattle.search.proofs.all_held.Tie as tie
+use Rattle.boundary.proofs.all_held.Statement.{statement}
+use Rattle.boundary.proofs.all_held.Tie as tie
 
 abbrev Inv-loop : tie.InvT-loop
 Inv-loop v i₀ i = (i ≤ length v) × ((j : ℕ) → j < i → T (fits binary64 (getD v j nan)))
@@ -30,14 +29,6 @@ add-i c = search needs
 
 loop-less : tie.Need-loop-less Inv-loop μ-loop
 loop-less c = search needs
-
--- one more
-one-more : (P : ℕ → Type 0) (i : ℕ) → ((j : ℕ) → j < i → P j) → P i → (j : ℕ) → j < i + 1 → P j
-one-more P i h p j l = go (ℕ-discrete j i)
-  where
-    go : Dec (j ≡ i) → P j
-    go (yes e) = rw e p
-    go (no a) = h j (omega arith)
 
 loop-again : tie.Need-loop-again Inv-loop μ-loop
 loop-again c = (search needs, one-more _ _ (c .before .before .before .loop .inv .1) (rw (c .before .number-at .ensures) at (c .held .ensures)))
