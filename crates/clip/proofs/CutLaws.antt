@@ -13,7 +13,7 @@ use lib.Ieee.Bits.{is-true}
 use Rattle.algebra.specs.Quote.{quote}
 use Rattle.algebra.specs.Lin as L
 use Rattle.algebra.specs.Lin.{le-from}
-use Rattle.algebra.specs.Order.{_≦_, _≺_}
+use Rattle.algebra.specs.Order.{_≦_, <ℤ→≤ℤ}
 use Rattle.number.specs.Exact.{Is, zeroᶠ, one}
 use Rattle.number.specs.Rounding.{Rounds}
 use Rattle.number.proofs.Operations.{zero-is, div-rounds}
@@ -23,7 +23,7 @@ use Rattle.number.proofs.OrderLaws.{over, places, le-not-below}
 use Rattle.clip.specs.Passes.{cutAt}
 
 -- ---- a fraction that is 0 at most, rounded, is not above 0; one that is 1 at least is not below 1
-zero-rounds : Rounds zeroᶠ (pos 0) 1
+pub zero-rounds : Rounds zeroᶠ (pos 0) 1
 unfolding round
 zero-rounds = record { sign = false; mag = 0; den-pos = lit< tt; same = refl; val = refl }
 
@@ -31,13 +31,13 @@ one-rounds : Rounds one (pos 1) 1
 unfolding round
 one-rounds = record { sign = false; mag = 1; den-pos = lit< tt; same = refl; val = refl }
 
-before-start : {u : Float} {n : ℤ} {c : ℕ} → Rounds u n c → n ≦ pos 0 → lt zeroᶠ u ≡ false
+pub before-start : {u : Float} {n : ℤ} {c : ℕ} → Rounds u n c → n ≦ pos 0 → lt zeroᶠ u ≡ false
 before-start {u} {n} {c} r l = le-not-below zeroᶠ u (rounds-order r zero-rounds (go n (pos c) l))
   where
     go : (n c : ℤ) → n ≦ pos 0 → n *ℤ pos 1 ≦ pos 0 *ℤ c
     go n c l = le-from (n ∷ c ∷ []) (L.le l ∷ []) (search quote depth 30) (omega arith)
 
-past-end : {u : Float} {n : ℤ} {c : ℕ} → Rounds u n c → pos c ≦ n → lt u one ≡ false
+pub past-end : {u : Float} {n : ℤ} {c : ℕ} → Rounds u n c → pos c ≦ n → lt u one ≡ false
 past-end {u} {n} {c} r l = le-not-below u one (rounds-order one-rounds r (go n (pos c) l))
   where
     go : (n c : ℤ) → c ≦ n → pos 1 *ℤ c ≦ n *ℤ pos 1
@@ -60,8 +60,8 @@ no-end d u h = and-false (ne d zeroᶠ && lt zeroᶠ u) (lt u one) h
 
 -- ---- finite ways, as the whole numbers z and w over one power of two
 module _ {k : ℕ} (p d : Float) {z : ℤ} (h : Is k p z) where
-  -- the bound is ahead, and the end no farther
-  uncut-ahead : (w : ℤ) → Is k d w → pos 0 ≺ z → w ≦ z → cutAt d (div binary64 p d) ≡ false
+  -- the bound is not behind the start, and the end no farther
+  pub uncut-ahead : (w : ℤ) → Is k d w → pos 0 ≦ z → w ≦ z → cutAt d (div binary64 p d) ≡ false
   uncut-ahead (pos zero) g e f = still d (div binary64 p d) (→eq g (zero-is k) refl)
   uncut-ahead (pos (suc b)) g e f = no-end d _ (past-end (div-rounds false h g (zero-lt-suc b)) (go z (pos (suc b)) f))
     where
@@ -69,11 +69,11 @@ module _ {k : ℕ} (p d : Float) {z : ℤ} (h : Is k p z) where
       go z c l = le-from (z ∷ c ∷ []) (L.le l ∷ []) (search quote depth 30) (omega arith)
   uncut-ahead (negsuc b) g e f = no-start d _ (before-start (div-rounds true h g (zero-lt-suc b)) (go z e))
     where
-      go : (z : ℤ) → pos 0 ≺ z → negsuc 0 *ℤ z ≦ pos 0
-      go z l = le-from (z ∷ []) (L.lt l ∷ []) (search quote depth 30) (omega arith)
+      go : (z : ℤ) → pos 0 ≦ z → negsuc 0 *ℤ z ≦ pos 0
+      go z l = le-from (z ∷ []) (L.le l ∷ []) (search quote depth 30) (omega arith)
 
-  -- it is not, and the end is past it
-  uncut-behind : (w : ℤ) → Is k d w → z ≦ pos 0 → z ≺ w → cutAt d (div binary64 p d) ≡ false
+  -- it is not ahead, and the end not before it
+  pub uncut-behind : (w : ℤ) → Is k d w → z ≦ pos 0 → z ≦ w → cutAt d (div binary64 p d) ≡ false
   uncut-behind (pos zero) g e f = still d (div binary64 p d) (→eq g (zero-is k) refl)
   uncut-behind (pos (suc b)) g e f = no-start d _ (before-start (div-rounds false h g (zero-lt-suc b)) (go z e))
     where
@@ -81,13 +81,13 @@ module _ {k : ℕ} (p d : Float) {z : ℤ} (h : Is k p z) where
       go z l = le-from (z ∷ []) (L.le l ∷ []) (search quote depth 30) (omega arith)
   uncut-behind (negsuc b) g e f = no-end d _ (past-end (div-rounds true h g (zero-lt-suc b)) (go z (pos (suc b)) f))
     where
-      go : (z c : ℤ) → z ≺ negℤ c → c ≦ negsuc 0 *ℤ z
-      go z c l = le-from (z ∷ c ∷ []) (L.lt l ∷ []) (search quote depth 30) (omega arith)
+      go : (z c : ℤ) → z ≦ negℤ c → c ≦ negsuc 0 *ℤ z
+      go z c l = le-from (z ∷ c ∷ []) (L.le l ∷ []) (search quote depth 30) (omega arith)
 
   uncut-whole : (w : ℤ) → Is k d w → (a b : Bool) → ltZ (pos 0) z ≡ a → ltZ z w ≡ b → unlike a b ≡ true → cutAt d (div binary64 p d) ≡ false
   uncut-whole w g true true e f t = absurd (true≢false (sym t))
-  uncut-whole w g true false e f t = uncut-ahead w g (is-lt e) (not-lt f)
-  uncut-whole w g false true e f t = uncut-behind w g (not-lt e) (is-lt f)
+  uncut-whole w g true false e f t = uncut-ahead w g (<ℤ→≤ℤ (is-lt e)) (not-lt f)
+  uncut-whole w g false true e f t = uncut-behind w g (not-lt e) (<ℤ→≤ℤ (is-lt f))
   uncut-whole w g false false e f t = absurd (true≢false (sym t))
 
 -- over the places of both

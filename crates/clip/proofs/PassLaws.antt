@@ -48,7 +48,7 @@ two-whole false u f a w e = refl
 abbrev marks : HalfPlane → Edge → List Part
 marks s e = let m = marksOf s e in blocks (m .cut) (m .startKept) (m .endKept) (firstPart m e) (lastPart m e)
 
-parts-marks : (s : HalfPlane) (e : Edge) → partsOf s e ≡ marks s e
+pub parts-marks : (s : HalfPlane) (e : Edge) → partsOf s e ≡ marks s e
 unfolding partsOf partOf marksOf marksBetween uncutOf crosses
 parts-marks s e = simp inside-at (two-parts e (crosses s e) (crossing s e) _ _ _)
 
@@ -73,7 +73,7 @@ module _ (s : HalfPlane) where
   unfolding parts flatMap
   parts-cons e es = rw (parts-marks s e)
 
-  any-parts : (q : Bool → Bool) (e : Edge) (es : List Edge)
+  pub any-parts : (q : Bool → Bool) (e : Edge) (es : List Edge)
       → any (λ p. q (p .kept)) (parts s (e ∷ es)) ≡ (q (marksOf s e .startKept) || q (marksOf s e .endKept)) || any (λ p. q (p .kept)) (parts s es)
   any-parts q e es =
       ap (any (λ p. q (p .kept))) (parts-cons e es)

@@ -1,13 +1,14 @@
 -- A closed list of lines clipped to a half-plane: boundary.rs's `clip` for lines, in its names and order. Definitions only.
-use mathlib.Core.Bool.{Bool, false, not, _&&_, cond}
+use mathlib.Core.Path.{_≡_}
+use mathlib.Core.Bool.{Bool, true, false, not, _&&_, cond}
 use mathlib.Core.List.{List, [], _∷_, _++_, flatMap}
 use Prim.Native.Nat.{ℕ, suc}
-use lib.ListN.{take, drop}
+use lib.ListN.{length, take, drop}
 use lib.Ieee.{Float, binary64, add, sub, mul, div, lt, le, ne}
 use Rattle.number.specs.Exact.{zeroᶠ, one}
 use Rattle.boundary.specs.declared.Point.{Point}
 use Rattle.boundary.specs.declared.Edge.{Edge}
-use Rattle.lists.specs.Lists.{fold, any}
+use Rattle.lists.specs.Lists.{fold, any, Every}
 use Rattle.boundary.specs.Outline.{samePoint}
 use Rattle.boundary.specs.Line.{alongOf}
 use Rattle.boundary.specs.Line.{half}
@@ -92,3 +93,12 @@ clipOf s es =
     cond (not (any (λ p. not (p .kept)) ps)) es
     (cond (not (any (λ p. p .kept) ps)) []
     (joined (keptLines (rotated ps))))
+
+-- ---- a clip that keeps every line whole and adds none (document 02, U4)
+-- a line is kept whole: its only part is itself, and kept
+abbrev pub KeptWhole : HalfPlane → Edge → Type 0
+KeptWhole s e = partsOf s e ≡ (record { line = e; kept = true } ∷ [])
+
+pub record KeepsAll (s : HalfPlane) (es : List Edge) : Type 0 where
+  pub whole : Every (KeptWhole s) es
+  pub none-added : length (clipOf s es) ≡ length es

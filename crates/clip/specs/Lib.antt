@@ -6,3 +6,5 @@ pub mod Clip
 pub mod Passes
 -- Inner: the lines that stand in a lent list.
 pub mod Lent
+-- Inner: an outline and a bound of the field.
+pub mod Bounded

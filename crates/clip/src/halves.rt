@@ -28,7 +28,7 @@ fn clip_some(w: &mut [f64], half: usize, c: Stored, s: HalfPlane) -> Stored
     let found = scan::first_pass(w, from, n, s);
     if found.start == n {
         if found.kept {
-            return c;
+            return Stored { second, n };
         }
         return Stored { second, n: 0 };
     }

@@ -16,11 +16,14 @@ fn coord(s: HalfPlane, p: Point) -> f64
     pick(s.y, p.y, p.x)
 }
 
-// Whether a coordinate is inside; the bound itself is.
+// Whether a coordinate is inside; the bound itself is. It is between the bound and an infinity, so that no
+// branch is taken.
 fn is_inside(s: HalfPlane, c: f64) -> bool
     ensures { λ r. ⌜ r ≡ coordInside s c ⌝ }
 {
-    if s.above { c >= s.v } else { c <= s.v }
+    let lo = pick(s.above, s.v, -1.0 / 0.0);
+    let hi = pick(s.above, 1.0 / 0.0, s.v);
+    (lo <= c) & (c <= hi)
 }
 
 // Whether a line is cut: its coordinate, which grows by d, meets the bound at u, between its ends.

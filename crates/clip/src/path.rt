@@ -6,8 +6,8 @@ ghost use Prim.Native.Nat.{_+_, _-_, _*_, _<_, _≤_};
 ghost use lib.ListN.{length};
 ghost use Rattle.boundary.specs.declared.Edge.{Edge};
 ghost use Rattle.lists.specs.Lists.{fold};
-ghost use Rattle.clip.specs.Passes.{Path, if-on, lineBetween, joinsOf, movedOf, followed, stepOf, unbegun, traced};
-ghost use Rattle.clip.specs.Lent.{lineAt, linesFrom, putAt, disjoint, Beside, Holds, Tracks};
+ghost use Rattle.clip.specs.Passes.{Path, if-on, lineBetween, joinsOf, movedOf, followed, stepOf, unbegun, closedPath, traced};
+ghost use Rattle.clip.specs.Lent.{linesFrom, putAt, disjoint, Beside, Holds, Tracks};
 use crate::HalfPlane;
 use crate::PathEnds;
 use crate::State;
@@ -90,16 +90,18 @@ fn follow(w: &mut [f64], to: usize, room: usize, s: State, e: Edge, kept: bool) 
     }
 }
 
-// Writes the parts of the line that stands at o.
-fn step(w: &mut [f64], side: HalfPlane, o: usize, to: usize, room: usize, s: State) -> State
-    requires { ⌜ (o + 4 ≤ length (now w)) × (to + 4 * room ≤ length (now w)) × (s .at < 4611686018427387904) ⌝ }
+// Writes the parts of a line.
+fn step(w: &mut [f64], side: HalfPlane, e: Edge, to: usize, room: usize, s: State) -> State
+    requires { ⌜ (to + 4 * room ≤ length (now w)) × (s .at < 4611686018427387904) ⌝ }
     ensures { λ r. ⌜ (r .at ≤ s .at + 4) × Beside to (4 * room) (now (w .entry)) (now (w .exit))
-        × ((t : Path) → Tracks to room (now (w .entry)) s t → Tracks to room (now (w .exit)) r (stepOf side t (lineAt (now (w .entry)) o))) ⌝ }
+        × ((t : Path) → Tracks to room (now (w .entry)) s t → Tracks to room (now (w .exit)) r (stepOf side t e)) ⌝ }
 {
-    let e = scan::line_at(w, o);
     let m = parts::marked(side, e);
+    if !m.cut {
+        return follow(w, to, room, s, e, m.startKept);
+    }
     let a = follow(w, to, room, s, parts::first(m, e), m.startKept);
-    follow(w, to, room, a, parts::second(m, e), m.cut & m.endKept)
+    follow(w, to, room, a, parts::second(m, e), m.endKept)
 }
 
 // Writes the parts of `count` lines, from line lo of the n that stand from `from` on.
@@ -122,7 +124,8 @@ fn run(
     let mut k = 0;
     while k < count {
         let i = lo + k;
-        now = step(w, side, from + 4 * i, to, room, now);
+        let e = scan::line_at(w, from + 4 * i);
+        now = step(w, side, e, to, room, now);
         k += 1;
     }
     now
@@ -142,6 +145,23 @@ fn empty() -> State
     }
 }
 
+// Writes the joint from the path's end to its start, where one is needed; how many lines the path has.
+fn close(w: &mut [f64], to: usize, room: usize, s: State) -> usize
+    requires { ⌜ (to + 4 * room ≤ length (now w)) × (s .at < 9223372036854775808) ⌝ }
+    ensures { λ r. ⌜ Beside to (4 * room) (now (w .entry)) (now (w .exit))
+        × ((t : Path) → Tracks to room (now (w .entry)) s t → Holds to room (now (w .exit)) r (closedPath t)) ⌝ }
+{
+    let ends = s.ends;
+    emit(
+        w,
+        to,
+        room,
+        s.at,
+        line(ends.last, ends.start),
+        joins(ends, ends.start),
+    )
+}
+
 // Writes the path of the n lines at `from`, from line `start` on and going round; how many lines it has,
 // of which `room` are written.
 pub fn trace(
@@ -159,13 +179,5 @@ pub fn trace(
 {
     let a = run(w, side, from, n, to, room, start, n - start, empty());
     let b = run(w, side, from, n, to, room, 0, start, a);
-    let ends = b.ends;
-    emit(
-        w,
-        to,
-        room,
-        b.at,
-        line(ends.last, ends.start),
-        joins(ends, ends.start),
-    )
+    close(w, to, room, b)
 }

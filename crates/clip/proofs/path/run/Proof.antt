@@ -24,14 +24,17 @@ loop-holds c = (search needs, search needs, unchanged _, λ t h. h)
 add-i : tie.Need-add-i Inv-loop μ-loop
 add-i c = search needs
 
-mul-step : tie.Need-mul-step Inv-loop μ-loop
-mul-step c = search needs
+mul-line-at : tie.Need-mul-line-at Inv-loop μ-loop
+mul-line-at c = search needs
 
-add-step : tie.Need-add-step Inv-loop μ-loop
-add-step c = search needs
+add-line-at : tie.Need-add-line-at Inv-loop μ-loop
+add-line-at c = search needs
+
+line-at-requires : tie.Need-line-at-requires Inv-loop μ-loop
+line-at-requires c κs = rw (c .before .before .loop .inv .2 .same) (omega arith)
 
 step-requires : tie.Need-step-requires Inv-loop μ-loop
-step-requires c κs = (rw (c .before .before .loop .inv .2 .same) (omega arith), rw (c .before .before .loop .inv .2 .same) (c .before .before .before .before .pre .1), omega arith)
+step-requires c κs = let l = c .before .before .before .before .loop in (rw (l .inv .2 .same) (c .before .before .before .before .before .before .pre .1), omega arith)
 
 add-k : tie.Need-add-k Inv-loop μ-loop
 add-k c = search needs
@@ -40,7 +43,13 @@ loop-less : tie.Need-loop-less Inv-loop μ-loop
 loop-less c = search needs
 
 loop-again : tie.Need-loop-again Inv-loop μ-loop
-loop-again c = (search needs, omega (arith, c .before .before .step .ensures .0), then (c .before .before .before .before .before .loop .inv .2) (c .before .before .step .ensures .1), λ t h. rw (fold-run-last (stepOf _)) (rw (line-in-kept (c .before .before .before .before .before .loop .inv .2) (c .before .before .before .before .before .before .before .args .from) (c .before .before .before .before .before .before .before .args .n) (c .before .before .before .before .before .before .before .args .lo + c .before .before .before .before .before .loop .k) (c .before .before .before .before .before .before .before .pre .3) (omega arith)) at (c .before .before .step .ensures .2 _ (c .before .before .before .before .before .loop .inv .3 t h))))
+loop-again c =
+    let g = c .before .before .step in
+    let l = c .before .before .before .before .before .before .before .loop in
+    let c9 = c .before .before .before .before .before .before .before .before .before in
+    let a = c9 .args in
+    let k = line-in-kept (l .inv .2) (a .from) (a .n) (a .lo + l .k) (c9 .pre .3) (omega arith) in
+    (search needs, omega (arith, g .ensures .0), then (l .inv .2) (g .ensures .1), λ t h. rw (fold-run-last (stepOf _)) (rw (c .before .before .before .before .line-at .ensures, k) at (g .ensures .2 _ (l .inv .3 t h))))
 
 same-length : tie.Need-same-length Inv-loop μ-loop
 same-length c = c .before .loop .inv .2 .same
@@ -56,8 +65,9 @@ run-spec =
     μ-loop
     loop-holds
     add-i
-    mul-step
-    add-step
+    mul-line-at
+    add-line-at
+    line-at-requires
     step-requires
     add-k
     loop-less
