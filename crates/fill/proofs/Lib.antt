@@ -1,1 +1,8 @@
--- The fill has no laws of its own: its code is proved by those of the clip.
+-- Laws of the fill.
+
+-- What a call whose tests pass tells.
+pub mod TestedLaws
+-- An outline wholly inside the cell: its fill is the sum over its own edges.
+pub mod OutlineWithin
+-- Vertices in a cell, row after row.
+pub mod WithinLaws

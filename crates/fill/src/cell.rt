@@ -11,7 +11,11 @@ ghost use Rattle.accept.specs.declared.Answer.the-variants.{Refused, Measure};
 ghost use Rattle.accept.specs.declared.Refusal.the-variants.{LongList};
 ghost use Rattle.clip.specs.Lent.{linesFrom, Beside, Holds, Stage};
 ghost use Rattle.fill.specs.Fill.{xdyOf, clip4, longOf};
-ghost use Rattle.fill.specs.Answers.{halfOf, filledOutcome};
+ghost use Rattle.number.specs.Exact.{Doubles};
+ghost use Rattle.boundary.specs.Boxes.{DoubleBox};
+ghost use Rattle.accept.specs.declared.Test.the-variants.{Passed};
+ghost use Rattle.fill.specs.Answers.{halfOf, fillTested, filled, filledOutcome};
+use crate::within;
 use accept::Answer;
 use accept::Refusal;
 use boundary::Bounds;
@@ -85,6 +89,25 @@ fn sum(w: &[f64], from: usize, n: usize) -> f64
     sum
 }
 
+// The same over the outline's edges. Each vertex is read once: the end of one edge is the start of the next.
+fn sum_own(v: &[f64]) -> f64
+    requires { ⌜ 1 ≤ count (now v) ⌝ }
+    ensures { λ r. ⌜ r ≡ total xdyOf (edges (now (v .entry))) ⌝ }
+{
+    let n = v.len() / 2;
+    let first = boundary::vertex_at(v, 0);
+    let mut area = 0.0;
+    let mut a = first;
+    let mut i = 0;
+    while i + 1 < n {
+        let b = boundary::vertex_at(v, i + 1);
+        area = area + x_dy(Edge { a, b });
+        a = b;
+        i += 1;
+    }
+    area + x_dy(Edge { a, b: first })
+}
+
 // What the four clips have left: the fill, or refusal 14.
 fn summed(w: &[f64], half: usize, c: Stored) -> Answer
     requires { ⌜ 8 * half ≤ length (now w) ⌝ }
@@ -98,15 +121,37 @@ fn summed(w: &[f64], half: usize, c: Stored) -> Answer
     Answer::Measure(sum(w, clip::halves::place(half, second), n))
 }
 
+// The fill by the four clips, in halves of `half` pieces.
+fn clipped(v: &[f64], c: Bounds, w: &mut [f64], half: usize) -> Answer
+    requires { ⌜ (count (now v) ≤ half) × (8 * half ≤ length (now w)) ⌝ }
+    ensures { λ r. ⌜ (r ≡ filled half (edges (now (v .entry))) c) × (length (now (w .exit)) ≡ length (now (w .entry)))
+        × (drop (8 * half) (now (w .exit)) ≡ drop (8 * half) (now (w .entry))) ⌝ }
+{
+    write_edges(v, w);
+    let last = four(w, half, v.len() / 2, c);
+    summed(w, half, last)
+}
+
+// The fill. An outline wholly inside the cell is summed as it is: no clip would change it, and nothing is
+// written to the halves.
+fn fill_by(v: &[f64], c: Bounds, w: &mut [f64], half: usize) -> Answer
+    requires { ⌜ (fillTested (now v) c (length (now w)) ≡ Passed) × Doubles (now v) × DoubleBox c × (half ≡ halfOf (length (now w))) ⌝ }
+    ensures { λ r. ⌜ (r ≡ filled half (edges (now (v .entry))) c) × (length (now (w .exit)) ≡ length (now (w .entry)))
+        × (drop (8 * half) (now (w .exit)) ≡ drop (8 * half) (now (w .entry))) ⌝ }
+{
+    if within::is_within(v, c) {
+        return Answer::Measure(sum_own(v));
+    }
+    clipped(v, c, w, half)
+}
+
 // The fill, in a buffer that is long enough.
 pub fn fill_in(v: &[f64], c: Bounds, w: &mut [f64]) -> Answer
-    requires { ⌜ count (now v) ≤ halfOf (length (now w)) ⌝ }
+    requires { ⌜ (fillTested (now v) c (length (now w)) ≡ Passed) × Doubles (now v) × DoubleBox c ⌝ }
     ensures { λ r. ⌜ record { answer = r; lent = now (w .exit) } ≡ filledOutcome (now (v .entry)) c (now (w .entry)) ⌝ }
 {
     let half = w.len() / 8;
-    write_edges(v, w);
-    let last = four(w, half, v.len() / 2, c);
-    let answer = summed(w, half, last);
+    let answer = fill_by(v, c, w, half);
     lists::clear_numbers(w, 8 * half);
     answer
 }

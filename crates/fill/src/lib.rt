@@ -1,6 +1,7 @@
 // The fill of a cell by an outline (boundary.rs, `fill`), in a lent buffer of two halves.
 pub mod cell;
 pub mod tests;
+pub mod within;
 
 ghost use mathlib.Core.Path.{_≡_};
 ghost use Rattle.fill.specs.Answers.{fillOutcome};
@@ -13,7 +14,11 @@ pub fn fill(v: &[f64], c: Bounds, w: &mut [f64]) -> Answer
     ensures { λ r. ⌜ record { answer = r; lent = now (w .exit) } ≡ fillOutcome (now (v .entry)) c (now (w .entry)) ⌝ }
 {
     match tests::fill_tested(v, c, w.len()) {
-        Test::Passed => cell::fill_in(v, c, w),
+        Test::Passed => {
+            boundary::all_held(v);
+            boundary::box_held(c);
+            cell::fill_in(v, c, w)
+        }
         Test::Failed(r) => Answer::Refused(r),
     }
 }

@@ -1,9 +1,7 @@
 -- `fill::fill` meets its contract. Assumes nothing.
 use mathlib.Core.Path.{sym, _∙_}
-use borrow.Author.Tests.{ltb-false}
-use Rattle.accept.specs.declared.Refusal.the-variants.{ShortBuffer}
-use Rattle.accept.proofs.TestLaws.{refusing-passed, given-passed, given-failed}
-use Rattle.fill.specs.Answers.{fillTested, fillOutcome}
+use Rattle.accept.proofs.TestLaws.{given-passed, given-failed}
+use Rattle.fill.specs.Answers.{fillOutcome}
 use borrow.Author.Needs.{needs}
 use Rattle.fill.proofs.fill.Statement.{statement}
 use Rattle.fill.proofs.fill.Tie as tie
@@ -14,11 +12,16 @@ fill-tested-requires c κs = search needs
 enum-told : tie.Need-enum-told
 enum-told c = search needs
 
+all-held-requires : tie.Need-all-held-requires
+all-held-requires c κs = search needs
+
+box-held-requires : tie.Need-box-held-requires
+box-held-requires c κs = search needs
+
 fill-in-requires : tie.Need-fill-in-requires
-unfolding fillTested
 fill-in-requires c κs =
-    let e = sym (c .before .before .before .fill-tested .ensures) ∙ c .before .enum-told .given .1 in
-    ltb-false _ _ (refusing-passed _ ShortBuffer _ e .1)
+    let d = c .before .before .before in
+    (sym (d .before .before .fill-tested .ensures) ∙ d .enum-told .given .1, c .before .before .all-held .ensures, c .before .box-held .ensures)
 
 enum-known-r : tie.Need-enum-known-r
 enum-known-r c = search needs
@@ -29,7 +32,7 @@ same-length c = search needs
 returns : tie.Need-returns
 unfolding fillOutcome
 returns c =
-    let d = c .before .before .before .before in
+    let d = c .before .before .before .before .before .before in
     let e = sym (d .before .before .fill-tested .ensures) ∙ d .enum-told .given .1 in
     rw (given-passed e) (c .before .before .fill-in .ensures)
 
@@ -45,6 +48,8 @@ fill-spec =
     (tie.spec
     fill-tested-requires
     enum-told
+    all-held-requires
+    box-held-requires
     fill-in-requires
     enum-known-r
     same-length
