@@ -30,7 +30,31 @@ mod standins;
 mod streams;
 mod table;
 
+#[cfg(target_env = "gnu")]
+unsafe extern "C" {
+    fn mallopt(parameter: i32, value: i32) -> i32;
+}
+
+/// Has the C library keep the memory that is freed, for the Rust's sake. As it comes, glibc gives large
+/// blocks back to the system, and gets them again, page by page and cleared, at the next call: in some
+/// rows that was most of the Rust's time (800 µs in place of 110 for the fill of a cell that covers an
+/// outline of 4,096 vertices). Ours allocates nothing.
+#[cfg(target_env = "gnu")]
+fn keep_memory() {
+    const M_TRIM_THRESHOLD: i32 = -1;
+    const M_MMAP_THRESHOLD: i32 = -3;
+    for parameter in [M_TRIM_THRESHOLD, M_MMAP_THRESHOLD] {
+        // SAFETY: no other thread runs yet.
+        let taken = unsafe { mallopt(parameter, 1 << 30) };
+        assert!(taken == 1, "mallopt does not take parameter {parameter}");
+    }
+}
+
+#[cfg(not(target_env = "gnu"))]
+fn keep_memory() {}
+
 fn main() {
+    keep_memory();
     original::self_check();
     let asked: Vec<String> = std::env::args().skip(1).collect();
     let groups: &[(&str, fn(&mut table::Table))] = &[

@@ -149,6 +149,29 @@ fn outline(i: u64, r: &mut Random) -> Vec<f64> {
     }
 }
 
+/// A cell about the outline's own box: each bound is the outline's, or one double beside it to either side.
+fn tight(list: &[f64], r: &mut Random) -> [f64; 4] {
+    let mut bound = |axis: usize, high: bool| {
+        let numbers = list.iter().skip(axis).step_by(2).copied();
+        let x = if high {
+            numbers.fold(f64::NEG_INFINITY, f64::max)
+        } else {
+            numbers.fold(f64::INFINITY, f64::min)
+        };
+        match r.below(4) {
+            0 => x.next_down(),
+            1 => x.next_up(),
+            _ => x,
+        }
+    };
+    [
+        bound(0, false),
+        bound(1, false),
+        bound(0, true),
+        bound(1, true),
+    ]
+}
+
 /// The outlines that every run compares, each with many cells, and `cases` pairs at random.
 pub fn compare(report: &mut Report, seed: u64, cases: u64) {
     report.operation("fill");
@@ -173,7 +196,10 @@ pub fn compare(report: &mut Report, seed: u64, cases: u64) {
     for i in 0..cases {
         case.number = i;
         let list = outline(i, &mut r);
-        let cell = shapes::cell(&list, &mut r);
+        let cell = match i % 8 {
+            7 => tight(&list, &mut r),
+            _ => shapes::cell(&list, &mut r),
+        };
         if i % 32 == 0 && list.len() <= 128 {
             case.limits(&list, cell);
         } else {
