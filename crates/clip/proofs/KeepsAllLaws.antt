@@ -23,9 +23,9 @@ use Rattle.clip.specs.declared.Stored.{Stored}
 use Rattle.clip.specs.Clip.{pointAlong, coordOf, inHalfPlane, crosses, Part, partOf, partsOf, parts, clipOf, KeptWhole, KeepsAll}
 use Rattle.clip.specs.Passes.{marksOf, firstPart}
 use Rattle.clip.specs.Lent.{Stage, Clipped, Untouched}
-use Rattle.clip.specs.Bounded.{BoundedIn}
+use Rattle.clip.specs.Bounded.{FieldNumbers, BoundedIn}
 use Rattle.clip.proofs.PassLaws.{parts-marks, clip-all}
-use Rattle.clip.proofs.OneSideLaws.{inside-marks}
+use Rattle.clip.proofs.OneSideLaws.{side-marks}
 
 -- ---- each line kept whole: all parts are marked inside, and no line is cut
 pub whole-inside : (s : HalfPlane) (es : List Edge) → Every (KeptWhole s) es → any (λ p. not (p .kept)) (parts s es) ≡ false
@@ -84,25 +84,29 @@ uncut-inside-whole s (e ∷ es) h k =
 pub hands-on : {half : ℕ} {s : HalfPlane} {w v : List Float} {c r : Stored} {es : List Edge} → Clipped half s w v c r → Stage half w c false es → KeepsAll s es → Untouched w v c r
 hands-on {s = s} {es = es} c h k = c .untouched es h (whole-inside s es (k .whole))
 
--- ---- a line with both ends inside is kept whole
+-- ---- a line with both ends inside is kept whole, and one with both ends outside dropped whole
 coord-field : (y : Bool) (p : Point) → FieldPoint p → FieldValue (cond y (p .y) (p .x))
 coord-field true p f = f .y
 coord-field false p f = f .x
 
-pub within-whole : (s : HalfPlane) (e : Edge) → FieldEdge e → FieldValue (s .v) → inHalfPlane s (e .a) ≡ true → inHalfPlane s (e .b) ≡ true → KeptWhole s e
+pub side-part : (s : HalfPlane) (e : Edge) → FieldEdge e → FieldValue (s .v) → (k : Bool) → inHalfPlane s (e .a) ≡ k → inHalfPlane s (e .b) ≡ k
+    → partsOf s e ≡ (record { line = e; kept = k } ∷ [])
 unfolding inHalfPlane marksOf firstPart
-within-whole s e f fv p q =
-    let m = inside-marks s (coordOf s (e .a)) (coordOf s (e .b)) (coord-field (s .y) (e .a) (f .a)) (coord-field (s .y) (e .b) (f .b)) fv p q in
+side-part s e f fv k p q =
+    let m = side-marks s (coordOf s (e .a)) (coordOf s (e .b)) (coord-field (s .y) (e .a) (f .a)) (coord-field (s .y) (e .b) (f .b)) fv k p q in
     parts-marks s e ∙ rw m
+
+pub within-whole : (s : HalfPlane) (e : Edge) → FieldEdge e → FieldValue (s .v) → inHalfPlane s (e .a) ≡ true → inHalfPlane s (e .b) ≡ true → KeptWhole s e
+within-whole s e f fv p q = side-part s e f fv true p q
+
+pub field-vertex : (v : List Float) → FieldNumbers v → (i : ℕ) → i < count v → FieldPoint (vertexAt v i)
+field-vertex v f i l = record { x = f (2 * i) (omega arith); y = f (2 * i + 1) (omega arith) }
 
 -- an outline with all vertices inside: every edge
 pub outline-whole : (s : HalfPlane) (v : List Float) → BoundedIn s v → ((i : ℕ) → i < count v → inHalfPlane s (vertexAt v i) ≡ true) → Every (KeptWhole s) (edges v)
 unfolding edges
 outline-whole s v f h = every-run (KeptWhole s) (edgeAt v) 0 (count v) (λ j l. at j (omega arith))
   where
-    field-at : (i : ℕ) → i < count v → FieldPoint (vertexAt v i)
-    field-at i l = record { x = f .numbers (2 * i) (omega arith); y = f .numbers (2 * i + 1) (omega arith) }
-
     after-below : (i : ℕ) → i < count v → (b : Bool) → eqb (i + 1) (count v) ≡ b → cond b 0 (i + 1) < count v
     after-below i l true e = omega arith
     after-below i l false e = let d = eqb-false (i + 1) (count v) e in omega arith
@@ -110,7 +114,8 @@ outline-whole s v f h = every-run (KeptWhole s) (edgeAt v) 0 (count v) (λ j l. 
     at : (i : ℕ) → i < count v → KeptWhole s (edgeAt v i)
     at i l =
         let n : after (count v) i < count v = after-below i l (eqb (i + 1) (count v)) refl in
-        within-whole s (edgeAt v i) (record { a = field-at i l; b = field-at (after (count v) i) n }) (f .bound) (h i l) (h (after (count v) i) n)
+        let e : FieldEdge (edgeAt v i) = record { a = field-vertex v (f .numbers) i l; b = field-vertex v (f .numbers) (after (count v) i) n } in
+        within-whole s (edgeAt v i) e (f .bound) (h i l) (h (after (count v) i) n)
 
 -- ---- off the grid all parts of a line can be marked inside though it is cut: the middle of its first part is rounded to the bound
 -- x ≥ 1, and the line from (1 - 2^-53, 0) to (2, 0)

@@ -1,6 +1,6 @@
 -- Lines written to a part of a lent list: what changes, and what stands there then. Assumes nothing.
 use mathlib.Core.Path.{_≡_, refl, sym, ap, _∙_}
-use mathlib.Core.Logic.{_⊎_, inl, inr, ⊎-elim}
+use mathlib.Core.Logic.{inl, inr, ⊎-elim}
 use mathlib.Core.List.{List, [], _∷_, _++_, append-nil}
 use mathlib.Core.Bool.{Bool, true, false, cond}
 use Prim.Native.Nat.{ℕ, _+_, _-_, _*_, _≤_, _<_}
@@ -10,7 +10,7 @@ use lib.ListN.{length, getD, set, drop, length-append, length-set, length-drop}
 use lib.Seq.{getD-set-same, getD-set-other, getD-drop, ext-getD}
 use lib.Ieee.{Float, nan}
 use Rattle.boundary.specs.declared.Edge.{Edge}
-use Rattle.lists.proofs.RunLaws.{run-last, run-same}
+use Rattle.lists.proofs.RunLaws.{run-last, run-same, length-run}
 use Rattle.lists.specs.Lists.{run}
 use Rattle.clip.specs.declared.PathEnds.{PathEnds}
 use Rattle.clip.specs.declared.State.{State}
@@ -57,7 +57,7 @@ module _ {to size : ℕ} {w v : List Float} (b : Beside to size w v) where
   pub line-in-kept : (from n i : ℕ) → disjoint from (4 * n) to size → i < n → lineIn v from i ≡ lineIn w from i
   line-in-kept from n i h l = line-kept (from + 4 * i) (⊎-elim (λ (p : from + 4 * n ≤ to). inl (omega arith)) (λ (p : to + size ≤ from). inr (omega arith)) h)
 
-  pub lines-kept : (from n lo k : ℕ) → disjoint from (4 * n) to size → lo + k ≤ n → linesFrom v from lo k ≡ linesFrom w from lo k
+  lines-kept : (from n lo k : ℕ) → disjoint from (4 * n) to size → lo + k ≤ n → linesFrom v from lo k ≡ linesFrom w from lo k
   lines-kept from n lo k h l = run-same (lineIn v from) (lineIn w from) lo k (λ i m. line-in-kept from n i h (omega arith))
 
 -- ---- a list of lines grows at its end
@@ -87,6 +87,10 @@ grown w to n e l =
     let v : List Float = putAt w (to + 4 * n) e in
     let z : 0 + n ≡ n = omega arith in
     rw (add-one n, run-last (lineIn v to) 0 n, z, put-line w (to + 4 * n) e l, lines-kept (stored-line {to = to + 4 * n} {size = 4} w (to + 4 * n) e (omega arith) (omega arith)) to n 0 n (inl (omega arith)) (omega arith))
+
+-- the n lines at the front of a list stand there
+pub front-lines : (room : ℕ) (w : List Float) (n : ℕ) → Holds 0 room w n (linesFrom w 0 0 n)
+front-lines room w n = record { count = length-run (lineIn w 0) 0 n; list = λ l. refl }
 
 -- ---- the ways in which `emit` goes
 module _ {to room : ℕ} {w : List Float} {n : ℕ} {es : List Edge} (h : Holds to room w n es) where

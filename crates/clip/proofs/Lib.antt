@@ -8,6 +8,8 @@ pub mod OneSideLaws
 pub mod PassLaws
 -- A clip that keeps every line whole and adds none.
 pub mod KeepsAllLaws
+-- Going round a list of lines.
+pub mod RoundLaws
 -- Lines written to a lent list.
 pub mod LentLaws
 -- A list that goes from one half to the other.
@@ -16,3 +18,7 @@ pub mod StageLaws
 pub mod FirstPassLaws
 -- On the grid a line that is cut has a part inside and one outside.
 pub mod GridCuts
+-- Neighbouring lines drawn as one: the clips give the same.
+pub mod ShortenedLaws
+-- The edges of an outline between vertices outside one bound of a strip, drawn as one.
+pub mod StripLaws

@@ -8,7 +8,7 @@ use native.Mathlib.Nat.{le-trans, le-refl, mul-le-mul, add-le-add}
 use native.Mathlib.Omega.{arith}
 use lib.Dec.{T, lit≤}
 use lib.IntN.{ℤ, pos, negℤ, natAbs, _+ℤ_, _-ℤ_, _*ℤ_, *ℤ-comm}
-use lib.Ieee.{Float, binary64, add, sub, mul, div, le, eq}
+use lib.Ieee.{Float, binary64, sub, mul, div, le, eq}
 use lib.Ieee.Bits.{is-true}
 use Rattle.algebra.specs.Quote.{quote}
 use Rattle.algebra.specs.Lin as L
@@ -23,9 +23,11 @@ use Rattle.number.proofs.ExactLaws.{sub-result, mul-result}
 use Rattle.number.proofs.OrderLaws.{is-order, order-is, le-through}
 use Rattle.number.proofs.Values.{is-rounds}
 use Rattle.boundary.specs.Line.{alongOf, half}
-use Rattle.boundary.specs.Boxes.{FieldValue}
+use Rattle.boundary.specs.declared.Point.{Point}
+use Rattle.boundary.specs.Boxes.{FieldValue, FieldPoint}
 use Rattle.boundary.proofs.FieldLaws.{field-is, way-of}
 use Rattle.clip.specs.declared.HalfPlane.{HalfPlane}
+use Rattle.clip.specs.Clip.{inHalfPlane}
 use Rattle.clip.specs.Passes.{coordInside, cutAt, markAt, uncutOf, marksBetween}
 use Rattle.clip.proofs.CutLaws.{zero-rounds, uncut-ahead, uncut-behind}
 
@@ -178,10 +180,9 @@ pub side-marks : (s : HalfPlane) (a b : Float) → FieldValue a → FieldValue b
 unfolding marksBetween uncutOf markAt
 side-marks s a b fa fb fv k p q = rw (side-uncut s a b fa fb fv k p q, mid-side s a b fa fb k p q)
 
-pub inside-marks : (s : HalfPlane) (a b : Float) → FieldValue a → FieldValue b → FieldValue (s .v) → coordInside s a ≡ true → coordInside s b ≡ true
-    → marksBetween s a b ≡ record { cut = false; u = zeroᶠ; startKept = true; endKept = true }
-inside-marks s a b fa fb fv p q = side-marks s a b fa fb fv true p q
-
-pub outside-marks : (s : HalfPlane) (a b : Float) → FieldValue a → FieldValue b → FieldValue (s .v) → coordInside s a ≡ false → coordInside s b ≡ false
-    → marksBetween s a b ≡ record { cut = false; u = zeroᶠ; startKept = false; endKept = false }
-outside-marks s a b fa fb fv p q = side-marks s a b fa fb fv false p q
+-- ---- between two bounds of one coordinate: what is outside the high one is inside the low one
+pub outside-high-inside-low : (y : Bool) (lo hi : Float) → FieldValue hi → T (le lo hi) → (p : Point) → FieldPoint p
+    → inHalfPlane (record { y = y; above = false; v = hi }) p ≡ false → inHalfPlane (record { y = y; above = true; v = lo }) p ≡ true
+unfolding inHalfPlane
+outside-high-inside-low true lo hi f l p g out = is-true (le lo (p .y)) (le-through lo hi (p .y) l (not-le (g .y) f out))
+outside-high-inside-low false lo hi f l p g out = is-true (le lo (p .x)) (le-through lo hi (p .x) l (not-le (g .x) f out))

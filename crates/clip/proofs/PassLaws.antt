@@ -161,7 +161,7 @@ module _ (s : HalfPlane) where
       by b false false rest k = (rest false (omega arith) .0, λ e. refl)
 
 -- ---- the kept lines from the first that comes in on, by parts and by lines
-kept-append : (ps qs : List Part) → keptLines (ps ++ qs) ≡ keptLines ps ++ keptLines qs
+pub kept-append : (ps qs : List Part) → keptLines (ps ++ qs) ≡ keptLines ps ++ keptLines qs
 unfolding keptLines flatMap
 kept-append [] qs = refl
 kept-append (p ∷ ps) qs = rw (kept-append ps qs) (sym (append-assoc (cond (p .kept) (p .line ∷ []) []) (keptLines ps) (keptLines qs)))
@@ -275,7 +275,7 @@ module _ (s : HalfPlane) where
       let t = turned-lines s b es in
       rw (h, path-lines s nothing fs, path-lines s (fold write nothing (keptLines (parts s fs))) gs, ← fold-append write nothing (keptLines (parts s fs)) (keptLines (parts s gs)), closed-joined, kept-append (drop (lead b (parts s es)) (parts s es)), t .after, t .front)
 
-  parts-append : (es fs : List Edge) → parts s (es ++ fs) ≡ parts s es ++ parts s fs
+  pub parts-append : (es fs : List Edge) → parts s (es ++ fs) ≡ parts s es ++ parts s fs
   unfolding parts flatMap
   parts-append [] fs = refl
   parts-append (e ∷ es) fs = rw (parts-append es fs) (sym (append-assoc (partsOf s e) (parts s es) (parts s fs)))

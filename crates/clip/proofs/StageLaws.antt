@@ -5,7 +5,7 @@ use mathlib.Core.List.{List, [], _∷_, _++_, flatMap}
 use mathlib.Core.Bool.{Bool, true, false, not, _||_, true≢false}
 use Prim.Native.Nat.{ℕ, suc, _+_, _-_, _*_, _≤_, _<_}
 use native.Mathlib.Omega.{arith}
-use borrow.Author.Tests.{lt-ltb, le-ltb}
+use borrow.Author.Tests.{lt-ltb, le-ltb, ltb-true}
 use lib.Dec.{ltb}
 use lib.ListN.{length}
 use lib.Ieee.{Float}
@@ -28,10 +28,6 @@ place-le half false = omega arith
 pub place-apart : (half n : ℕ) (b : Bool) → n ≤ half → disjoint (placeOf half b) (4 * n) (placeOf half (not b)) (4 * half)
 place-apart half n true l = inr (omega arith)
 place-apart half n false l = inl (omega arith)
-
--- a list that fits, where there is more room
-pub more-room : {to room wide : ℕ} {w : List Float} {n : ℕ} {es : List Edge} → Holds to room w n es → n ≤ room → Holds to wide w n es
-more-room h l = record { count = h .count; list = λ k. h .list l }
 
 -- the list that goes into the first clip
 pub begins : {half : ℕ} {w : List Float} {n : ℕ} {es : List Edge} → Holds 0 half w n es → n ≤ half → Stage half w (record { second = false; n = n }) false es
@@ -102,6 +98,29 @@ module _ {half : ℕ} {w : List Float} {c : Stored} {long : Bool} {es : List Edg
 
   pub short : c .n ≤ half → long ≡ false
   short l = sym (h .flag) ∙ le-ltb half (c .n) l
+
+-- ---- a list that stands for one of `more` lines more, which is longer than a half holds, or not
+module _ {half more m : ℕ} {w : List Float} {c : Stored} {es : List Edge} (fits : more ≤ half) (all : m ≡ more + length es)
+    (h : Stage half w c (ltb half (length es)) es) where
+  count-held : ltb half (length es) ≡ false → length es ≡ c .n
+  count-held e = h .held e .count
+
+  pub counted-long : half - more < c .n → (b : Bool) → Stage half w (record { second = b; n = half + 1 }) (ltb half m) es
+  counted-long l b = record { flag = lt-ltb half (half + 1) (omega arith) ∙ sym over; held = λ z. absurd (true≢false (sym over ∙ z)) }
+    where
+      over : ltb half m ≡ true
+      over = by (ltb half (length es)) refl
+        where
+          by : (b : Bool) → ltb half (length es) ≡ b → ltb half m ≡ true
+          by true e = lt-ltb half m (let k = ltb-true half (length es) e in omega (arith, k, all))
+          by false e = lt-ltb half m (omega (arith, l, all, count-held e))
+
+  pub counted-short : c .n ≤ half - more → Stage half w c (ltb half m) es
+  counted-short l =
+      let e : ltb half (length es) ≡ false = sym (h .flag) ∙ le-ltb half (c .n) (omega arith) in
+      let n = count-held e in
+      let f : ltb half m ≡ false = le-ltb half m (omega (arith, l, all, n)) in
+      record { flag = h .flag ∙ e ∙ sym f; held = λ z. h .held e }
 
 nothing-left : (es : List Edge) → length es ≡ 0 → es ≡ []
 nothing-left [] e = refl

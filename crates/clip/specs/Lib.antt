@@ -8,3 +8,5 @@ pub mod Passes
 pub mod Lent
 -- Inner: an outline and a bound of the field.
 pub mod Bounded
+-- Inner: neighbouring lines drawn as one.
+pub mod Shortened

@@ -1,6 +1,6 @@
 // The parts of a line, and which of them are inside.
 ghost use mathlib.Core.Path.{_≡_};
-ghost use Rattle.clip.specs.Clip.{pointAlong, coordOf};
+ghost use Rattle.clip.specs.Clip.{pointAlong, coordOf, inHalfPlane};
 ghost use Rattle.clip.specs.Passes.{coordInside, cutAt, markAt, uncutOf, marksBetween, marksOf, firstPart, lastPart};
 use crate::HalfPlane;
 use crate::Marks;
@@ -24,6 +24,13 @@ fn is_inside(s: HalfPlane, c: f64) -> bool
     let lo = pick(s.above, s.v, -1.0 / 0.0);
     let hi = pick(s.above, 1.0 / 0.0, s.v);
     (lo <= c) & (c <= hi)
+}
+
+// Whether a point is inside.
+pub fn in_half_plane(s: HalfPlane, p: Point) -> bool
+    ensures { λ r. ⌜ r ≡ inHalfPlane s p ⌝ }
+{
+    is_inside(s, coord(s, p))
 }
 
 // Whether a line is cut: its coordinate, which grows by d, meets the bound at u, between its ends.

@@ -104,7 +104,7 @@ fn step(w: &mut [f64], side: HalfPlane, e: Edge, to: usize, room: usize, s: Stat
     follow(w, to, room, a, parts::second(m, e), m.endKept)
 }
 
-// Writes the parts of `count` lines, from line lo of the n that stand from `from` on.
+// Writes the parts of the n lines that stand from `from` on, from line `start` on and going round.
 fn run(
     w: &mut [f64],
     side: HalfPlane,
@@ -112,20 +112,20 @@ fn run(
     n: usize,
     to: usize,
     room: usize,
-    lo: usize,
-    count: usize,
+    start: usize,
     s: State,
 ) -> State
-    requires { ⌜ (from + 4 * n ≤ length (now w)) × (to + 4 * room ≤ length (now w)) × (lo + count ≤ n) × disjoint from (4 * n) to (4 * room) × (s .at ≤ 4 * n) ⌝ }
-    ensures { λ r. ⌜ (r .at ≤ s .at + 4 * count) × Beside to (4 * room) (now (w .entry)) (now (w .exit))
-        × ((t : Path) → Tracks to room (now (w .entry)) s t → Tracks to room (now (w .exit)) r (fold (stepOf side) t (linesFrom (now (w .entry)) from lo count))) ⌝ }
+    requires { ⌜ (from + 4 * n ≤ length (now w)) × (to + 4 * room ≤ length (now w)) × (start < n) × disjoint from (4 * n) to (4 * room) × (s .at ≤ 4 * n) ⌝ }
+    ensures { λ r. ⌜ (r .at ≤ s .at + 4 * n) × Beside to (4 * room) (now (w .entry)) (now (w .exit))
+        × ((t : Path) → Tracks to room (now (w .entry)) s t → Tracks to room (now (w .exit)) r (fold (stepOf side) (fold (stepOf side) t (linesFrom (now (w .entry)) from start (n - start))) (linesFrom (now (w .entry)) from 0 start))) ⌝ }
 {
     let mut now = s;
+    let mut i = start;
     let mut k = 0;
-    while k < count {
-        let i = lo + k;
+    while k < n {
         let e = scan::line_at(w, from + 4 * i);
         now = step(w, side, e, to, room, now);
+        i = boundary::next(i, n);
         k += 1;
     }
     now
@@ -173,11 +173,10 @@ pub fn trace(
     room: usize,
     start: usize,
 ) -> usize
-    requires { ⌜ (from + 4 * n ≤ length (now w)) × (to + 4 * room ≤ length (now w)) × (start ≤ n) × disjoint from (4 * n) to (4 * room) ⌝ }
+    requires { ⌜ (from + 4 * n ≤ length (now w)) × (to + 4 * room ≤ length (now w)) × (start < n) × disjoint from (4 * n) to (4 * room) ⌝ }
     ensures { λ r. ⌜ Beside to (4 * room) (now (w .entry)) (now (w .exit))
         × Holds to room (now (w .exit)) r (traced side (linesFrom (now (w .entry)) from start (n - start)) (linesFrom (now (w .entry)) from 0 start)) ⌝ }
 {
-    let a = run(w, side, from, n, to, room, start, n - start, empty());
-    let b = run(w, side, from, n, to, room, 0, start, a);
+    let b = run(w, side, from, n, to, room, start, empty());
     close(w, to, room, b)
 }

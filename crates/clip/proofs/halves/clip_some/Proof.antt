@@ -57,7 +57,7 @@ trace-requires : tie.Need-trace-requires
 trace-requires c κs =
     let c6 = c .before .before .before .before .before .before in
     let c8 = c6 .before .before in
-    (omega (arith, c6 .place .ensures, place-le (c8 .args .half) (c8 .args .c .second), c8 .pre .2, c8 .pre .0), omega (arith, c .before .place2 .ensures, place-le (c8 .args .half) (not (c8 .args .c .second)), c8 .pre .0), c .before .before .before .before .first-pass .ensures .1, rw (c6 .place .ensures, c .before .place2 .ensures) (place-apart _ _ (c8 .args .c .second) (c8 .pre .2)))
+    (omega (arith, c6 .place .ensures, place-le (c8 .args .half) (c8 .args .c .second), c8 .pre .2, c8 .pre .0), omega (arith, c .before .place2 .ensures, place-le (c8 .args .half) (not (c8 .args .c .second)), c8 .pre .0), omega (arith, c .before .before .before .before .first-pass .ensures .1, c .before .before .if1 .left), rw (c6 .place .ensures, c .before .place2 .ensures) (place-apart _ _ (c8 .args .c .second) (c8 .pre .2)))
 
 same-length-3 : tie.Need-same-length-3
 same-length-3 c = c .before .before .trace .ensures .0 .same
