@@ -6,3 +6,5 @@ pub mod TestedLaws
 pub mod OutlineWithin
 -- Vertices in a cell, row after row.
 pub mod WithinLaws
+-- Vertices outside a bound, and the strip between the two bounds of x.
+pub mod ChordLaws

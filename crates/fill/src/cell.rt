@@ -1,20 +1,25 @@
 // The fill of a cell: the four clips, the sum, and the halves cleared.
 ghost use mathlib.Core.Path.{_≡_};
-ghost use mathlib.Core.Bool.{Bool, cond};
+ghost use mathlib.Core.Bool.{Bool, _||_, cond};
 ghost use mathlib.Core.List.{List};
-ghost use Prim.Native.Nat.{_+_, _*_, _≤_};
+ghost use Prim.Native.Nat.{ℕ, _+_, _*_, _<_, _≤_};
+ghost use lib.Dec.{ltb};
 ghost use lib.ListN.{length, drop};
+ghost use lib.Ieee.{Float};
 ghost use Rattle.boundary.specs.declared.Edge.{Edge};
 ghost use Rattle.lists.specs.Lists.{total};
 ghost use Rattle.boundary.specs.Outline.{count, edges};
 ghost use Rattle.accept.specs.declared.Answer.the-variants.{Refused, Measure};
 ghost use Rattle.accept.specs.declared.Refusal.the-variants.{LongList};
-ghost use Rattle.clip.specs.Lent.{linesFrom, Beside, Holds, Stage};
-ghost use Rattle.fill.specs.Fill.{xdyOf, clip4, longOf};
+ghost use Rattle.clip.specs.Clip.{clipOf};
+ghost use Rattle.clip.specs.Lent.{linesFrom, Stage};
+ghost use Rattle.clip.specs.Shortened.{Shortened, StripOf};
+ghost use Rattle.fill.specs.Fill.{lowX, highX, lowY, highY, clip1, clip2, longer, xdyOf};
 ghost use Rattle.number.specs.Exact.{Doubles};
 ghost use Rattle.boundary.specs.Boxes.{DoubleBox};
 ghost use Rattle.accept.specs.declared.Test.the-variants.{Passed};
 ghost use Rattle.fill.specs.Answers.{halfOf, fillTested, filled, filledOutcome};
+use crate::lines;
 use crate::within;
 use accept::Answer;
 use accept::Refusal;
@@ -23,37 +28,69 @@ use boundary::Edge;
 use clip::HalfPlane;
 use clip::Stored;
 
-// Writes the outline's edges to the front of w.
-fn write_edges(v: &[f64], w: &mut [f64])
-    requires { ⌜ 4 * count (now v) ≤ length (now w) ⌝ }
-    ensures { λ _. ⌜ Beside 0 (4 * count (now (v .entry))) (now (w .entry)) (now (w .exit))
-        × Holds 0 (count (now (v .entry))) (now (w .exit)) (count (now (v .entry))) (edges (now (v .entry))) ⌝ }
+// The cell's bounds of x.
+fn low_x(c: Bounds) -> HalfPlane
+    ensures { λ r. ⌜ r ≡ lowX c ⌝ }
 {
-    let n = v.len() / 2;
-    let mut i = 0;
-    while i < n {
-        i = clip::path::emit(w, 0, n, i, boundary::edge_at(v, i), true);
-    }
-}
-
-// The four clips, of the n lines in the first half.
-fn four(w: &mut [f64], half: usize, n: usize, c: Bounds) -> Stored
-    requires { ⌜ (8 * half ≤ length (now w)) × (n ≤ half) ⌝ }
-    ensures { λ r. ⌜ (length (now (w .exit)) ≡ length (now (w .entry))) × (drop (8 * half) (now (w .exit)) ≡ drop (8 * half) (now (w .entry)))
-        × ((es : List Edge) → Holds 0 half (now (w .entry)) n es → Stage half (now (w .exit)) r (longOf half es c) (clip4 es c)) ⌝ }
-{
-    let low_x = HalfPlane {
+    HalfPlane {
         y: false,
         above: true,
         v: c.min.x,
-    };
-    let a = clip::halves::clip(w, half, Stored { second: false, n }, low_x);
-    let high_x = HalfPlane {
+    }
+}
+
+fn high_x(c: Bounds) -> HalfPlane
+    ensures { λ r. ⌜ r ≡ highX c ⌝ }
+{
+    HalfPlane {
         y: false,
         above: false,
         v: c.max.x,
-    };
-    let b = clip::halves::clip(w, half, a, high_x);
+    }
+}
+
+// Where the list stands that the first clip gave, once `beyond` more lines are counted in it: too long, if a half
+// does not hold as many.
+fn counted(half: usize, c: Stored, beyond: usize) -> Stored
+    requires { ⌜ (half < 9223372036854775808) × (beyond ≤ half) ⌝ }
+    ensures { λ r. ⌜ ((w : List Float) (es : List Edge) (m : ℕ) → m ≡ beyond + length es → Stage half w c (ltb half (length es)) es → Stage half w r (ltb half m) es) ⌝ }
+{
+    let n = c.n;
+    let second = c.second;
+    if half - beyond < n {
+        return Stored {
+            second,
+            n: half + 1,
+        };
+    }
+    c
+}
+
+// The clips at low x and high x of the n lines in the first half, which stand for an outline's edges but for
+// `beyond` of them. An empty list stays so.
+fn clip_x(w: &mut [f64], half: usize, n: usize, beyond: usize, c: Bounds) -> Stored
+    requires { ⌜ (8 * half ≤ length (now w)) × (n ≤ half) × (beyond ≤ half) ⌝ }
+    ensures { λ r. ⌜ (length (now (w .exit)) ≡ length (now (w .entry))) × (drop (8 * half) (now (w .exit)) ≡ drop (8 * half) (now (w .entry)))
+        × ((es : List Edge) → Shortened (lowX c) (highX c) beyond es (linesFrom (now (w .entry)) 0 0 n) → Stage half (now (w .exit)) r (longer half (clip1 es c) || longer half (clip2 es c)) (clip2 es c)) ⌝ }
+{
+    let first = clip::halves::clip(w, half, Stored { second: false, n }, low_x(c));
+    let a = counted(half, first, beyond);
+    if a.n == 0 {
+        return a;
+    }
+    clip::halves::clip(w, half, a, high_x(c))
+}
+
+// Those at low y and high y.
+fn clip_y(w: &mut [f64], half: usize, b: Stored, c: Bounds) -> Stored
+    requires { ⌜ 8 * half ≤ length (now w) ⌝ }
+    ensures { λ r. ⌜ (length (now (w .exit)) ≡ length (now (w .entry))) × (drop (8 * half) (now (w .exit)) ≡ drop (8 * half) (now (w .entry)))
+        × ((long : Bool) (es : List Edge) → Stage half (now (w .entry)) b long es
+        → Stage half (now (w .exit)) r ((long || longer half (clipOf (lowY c) es)) || longer half (clipOf (highY c) (clipOf (lowY c) es))) (clipOf (highY c) (clipOf (lowY c) es))) ⌝ }
+{
+    if b.n == 0 {
+        return b;
+    }
     let low_y = HalfPlane {
         y: true,
         above: true,
@@ -123,12 +160,13 @@ fn summed(w: &[f64], half: usize, c: Stored) -> Answer
 
 // The fill by the four clips, in halves of `half` pieces.
 fn clipped(v: &[f64], c: Bounds, w: &mut [f64], half: usize) -> Answer
-    requires { ⌜ (count (now v) ≤ half) × (8 * half ≤ length (now w)) ⌝ }
+    requires { ⌜ (count (now v) ≤ half) × (8 * half ≤ length (now w)) × StripOf (lowX c) (highX c) (now v) ⌝ }
     ensures { λ r. ⌜ (r ≡ filled half (edges (now (v .entry))) c) × (length (now (w .exit)) ≡ length (now (w .entry)))
         × (drop (8 * half) (now (w .exit)) ≡ drop (8 * half) (now (w .entry))) ⌝ }
 {
-    write_edges(v, w);
-    let last = four(w, half, v.len() / 2, c);
+    let k = lines::write_chords(v, low_x(c), high_x(c), w);
+    let b = clip_x(w, half, k.n, k.beyond, c);
+    let last = clip_y(w, half, b, c);
     summed(w, half, last)
 }
 

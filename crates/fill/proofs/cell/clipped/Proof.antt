@@ -1,41 +1,51 @@
 -- `fill::cell::clipped` meets its contract. Assumes nothing.
 use mathlib.Core.Path.{_∙_}
 use Prim.Native.Nat.{_*_}
-use native.Mathlib.Nat.{le-refl}
 use native.Mathlib.Omega.{arith}
 use Rattle.clip.proofs.LentLaws.{rest-kept}
-use Rattle.clip.proofs.StageLaws.{more-room}
-use Rattle.fill.specs.Fill.{fillOf}
+use Rattle.fill.specs.Fill.{fillOf, longOf}
 use Rattle.fill.specs.Answers.{filled}
 use borrow.Author.Needs.{needs}
 use Rattle.fill.proofs.cell.clipped.Statement.{statement}
 use Rattle.fill.proofs.cell.clipped.Tie as tie
 
-write-edges-requires : tie.Need-write-edges-requires
-write-edges-requires c κs = let q = c .before .before .before .pre in omega (arith, q .0, q .1)
+low-x-requires : tie.Need-low-x-requires
+low-x-requires c κs = search needs
 
-four-requires : tie.Need-four-requires
-four-requires c κs = let q = c .before .before .before .before .before .before .before .pre in (rw (c .before .before .before .write-edges .ensures .0 .same) (q .1), q .0)
+high-x-requires : tie.Need-high-x-requires
+high-x-requires c κs = search needs
+
+write-chords-requires : tie.Need-write-chords-requires
+write-chords-requires c κs =
+    let q = c .before .before .before .before .before .pre in
+    (omega (arith, q .0, q .1), rw (c .before .before .low-x .ensures, c .before .high-x .ensures) (q .2))
+
+clip-x-requires : tie.Need-clip-x-requires
+clip-x-requires c κs = search needs
+
+clip-y-requires : tie.Need-clip-y-requires
+clip-y-requires c κs = search needs
 
 summed-requires : tie.Need-summed-requires
-summed-requires c κs =
-    let c3 = c .before .before .before in
-    let c7 = c3 .before .before .before .before in
-    rw (c3 .four .ensures .0, c7 .write-edges .ensures .0 .same) (c7 .before .before .before .before .pre .1)
+summed-requires c κs = search needs
 
 same-length : tie.Need-same-length
-same-length c = let c4 = c .before .before .before .before in c4 .four .ensures .0 ∙ c4 .before .before .before .before .write-edges .ensures .0 .same
+same-length c = search needs
 
 returns : tie.Need-returns
-unfolding filled fillOf
+unfolding filled fillOf longOf
 returns c =
     let c4 = c .before .before .before .before in
     let c8 = c4 .before .before .before .before in
-    let q = c8 .before .before .before .before in (
-      c .summed .ensures _ _ (c4 .four .ensures .2 _ (more-room (c8 .write-edges .ensures .1) (le-refl _))),
-      c4 .four .ensures .0 ∙ c8 .write-edges .ensures .0 .same,
-      c4 .four .ensures .1 ∙ rest-kept (c8 .write-edges .ensures .0) (8 * q .args .half) (omega (arith, q .pre .0)),
+    let c12 = c8 .before .before .before .before in
+    let g = rw (c12 .before .before .before .low-x .ensures, c12 .before .before .high-x .ensures) at (c12 .write-chords .ensures) in
+    let q = c12 .before .before .before .before .before .before in (
+      c .summed .ensures _ _ (c4 .clip-y .ensures .2 _ _ (c8 .clip-x .ensures .2 _ (g .3))),
+      c4 .clip-y .ensures .0 ∙ c8 .clip-x .ensures .0 ∙ g .2 .same,
+      c4 .clip-y .ensures .1 ∙ c8 .clip-x .ensures .1 ∙ rest-kept (g .2) (8 * q .args .half) (omega (arith, q .pre .0)),
     )
 
 pub clipped-spec : {M : Type 1} → statement M
-clipped-spec = tie.close (tie.spec write-edges-requires four-requires summed-requires same-length returns)
+clipped-spec =
+    tie.close
+    (tie.spec low-x-requires high-x-requires write-chords-requires clip-x-requires clip-y-requires summed-requires same-length returns)

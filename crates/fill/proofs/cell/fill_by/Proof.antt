@@ -4,6 +4,7 @@ use native.Mathlib.Omega.{arith}
 use lib.ListN.{length}
 use Rattle.fill.proofs.TestedLaws.{fill-passed, tested-some}
 use Rattle.fill.proofs.OutlineWithin.{within-filled}
+use Rattle.fill.proofs.ChordLaws.{cell-strip}
 use borrow.Author.Needs.{needs}
 use Rattle.fill.proofs.cell.fill_by.Statement.{statement}
 use Rattle.fill.proofs.cell.fill_by.Tie as tie
@@ -21,7 +22,9 @@ returns c =
     (rw (q .pre .3, within-filled (a .v .now) (a .c) (length (a .w .now)) (q .pre .1) (q .pre .2) (q .pre .0) (c .before .before .is-within .ensures (c .before .if1 .taken)), c .sum-own .ensures), refl, refl)
 
 clipped-requires : tie.Need-clipped-requires
-clipped-requires c κs = let q = c .before .before .before .before .before .pre in rw (q .3) (fill-passed _ _ _ (q .0) .enough, omega arith)
+clipped-requires c κs =
+    let q = c .before .before .before .before .before .pre in
+    rw (q .3) (fill-passed _ _ _ (q .0) .enough, omega arith, cell-strip _ _ _ (q .1) (q .2) (q .0))
 
 same-length : tie.Need-same-length
 same-length c = c .before .before .clipped .ensures .1
