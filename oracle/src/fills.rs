@@ -172,6 +172,21 @@ fn tight(list: &[f64], r: &mut Random) -> [f64; 4] {
     ]
 }
 
+/// A strip: each bound of x is a vertex's, or one double beside it to either side, so that runs of edges lie
+/// beyond one bound and end at it. The bounds of y are those of `cell`.
+fn strip(list: &[f64], cell: [f64; 4], r: &mut Random) -> [f64; 4] {
+    let mut bound = || {
+        let x = list[2 * r.below(list.len() as u64 / 2) as usize];
+        match r.below(4) {
+            0 => x.next_down(),
+            1 => x.next_up(),
+            _ => x,
+        }
+    };
+    let (a, b) = (bound(), bound());
+    [a.min(b), cell[1], a.max(b), cell[3]]
+}
+
 /// The outlines that every run compares, each with many cells, and `cases` pairs at random.
 pub fn compare(report: &mut Report, seed: u64, cases: u64) {
     report.operation("fill");
@@ -198,6 +213,7 @@ pub fn compare(report: &mut Report, seed: u64, cases: u64) {
         let list = outline(i, &mut r);
         let cell = match i % 8 {
             7 => tight(&list, &mut r),
+            5 if list.len() > 1 => strip(&list, shapes::cell(&list, &mut r), &mut r),
             _ => shapes::cell(&list, &mut r),
         };
         if i % 32 == 0 && list.len() <= 128 {
