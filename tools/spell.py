@@ -104,6 +104,17 @@ def ghost_parts(text):
         yield m.start(), i
 
 
+def own_names(text, names, root):
+    """The names to turn in this file: not those that it imports from a library of the kit."""
+    ours = set(os.listdir(os.path.join(root, "crates")))
+    foreign = set()
+    for m in re.finditer(r"^\s*(?:pub |ghost )?use ([^{}\n]*?)\.\{([^}]*)\}", text, re.M):
+        path = m.group(1).split(".")
+        if not (path[0] == "Rattle" and len(path) > 1 and path[1] in ours):
+            foreign.update(n.split()[0] for n in m.group(2).split(",") if n.strip())
+    return {old: new for old, new in names.items() if old not in foreign}
+
+
 def turned(text, names, keep_members=False):
     if re.match(r"\s*(pub |ghost )?use ", text):
         return re.sub(r"\{[^}]*\}", lambda m: spell(m.group(0), names, False), text)
@@ -168,7 +179,8 @@ def main(argv):
     for path in files(root):
         with open(path, encoding="utf-8") as f:
             text = f.read()
-        new = turn_rt(text, names) if path.endswith(".rt") else turn_antt(text, names, of_function(path, root))
+        here = own_names(text, names, root)
+        new = turn_rt(text, here) if path.endswith(".rt") else turn_antt(text, here, of_function(path, root))
         if new != text:
             with open(path, "w", encoding="utf-8") as f:
                 f.write(new)

@@ -1,7 +1,7 @@
 -- ℤ as an ordered ring: the order is lib.Signed's (`◌≤ℤ◌`, `◌<ℤ◌`), which MIR's comparisons of signed integers are.
 -- `le_parts` and `parts_le` carry it to ℕ and back, and are rules that `omega` takes: `omega (arith, le_parts, parts_le)`.
 use Rattle.std.specs.Prelude.{◌≡◌, refl, ◌⊎◌, ℕ, suc, ◌+◌, ◌*◌, ◌<◌, ◌≤◌, T, ℤ, pos, negsuc, neg_ℤ, nat_abs, ◌+ℤ◌, ◌-ℤ◌, ◌*ℤ◌, ◌≤ℤ◌, ◌<ℤ◌}
-use Rattle.std.proofs.Common.{ap, inl, inr, zero_le, mul-le-mul, leb→le, le→leb, ltb→lt, lt→ltb}
+use Rattle.std.proofs.Common.{ap, inl, inr, zero-le, mul-le-mul, leb→le, le→leb, ltb→lt, lt→ltb}
 use Rattle.std.proofs.Math.Decide.{dec_le}
 use native.Mathlib.Omega.{arith, by_contra}
 use Rattle.std.proofs.Math.IntN.{sub_ℕ}
@@ -95,7 +95,7 @@ le_by_rest {x} {y} t h e = omega (ord, add_parts x t, ap pos_part e, ap neg_part
 
 -- ---- products
 prod_nonneg : (a b : ℤ) → pos 0 ≦ a → pos 0 ≦ b → pos 0 ≦ a *ℤ b
-prod_nonneg (pos m) (pos n) h k = parts_le zero_le
+prod_nonneg (pos m) (pos n) h k = parts_le zero-le
 prod_nonneg (pos m) (negsuc n) h k = absurd k.le
 prod_nonneg (negsuc m) b h k = absurd h.le
 
@@ -124,8 +124,8 @@ pub mul_le : {x y u v : ℤ} → x ≦ y → u ≦ v → pos 0 ≦ (y -ℤ x) *�
 mul_le h k = mul_nonneg (sub_nonneg h) (sub_nonneg k)
 
 pub sq_nonneg : (x : ℤ) → pos 0 ≦ x *ℤ x
-sq_nonneg (pos n) = parts_le zero_le
-sq_nonneg (negsuc n) = parts_le zero_le
+sq_nonneg (pos n) = parts_le zero-le
+sq_nonneg (negsuc n) = parts_le zero-le
 
 -- ---- magnitudes
 pub nat_abs_parts : (x : ℤ) → nat_abs x ≡ pos_part x + neg_part x
@@ -205,7 +205,7 @@ pub le_pos : {m n : ℕ} → pos m ≦ pos n → m ≤ n
 le_pos h = omega (arith, le_parts h)
 
 pub pos_nonneg : (n : ℕ) → pos 0 ≦ pos n
-pos_nonneg n = pos_le zero_le
+pos_nonneg n = pos_le zero-le
 
 -- an integer that is not negative is a natural
 pub nonneg_nat : {x : ℤ} → pos 0 ≦ x → pos (nat_abs x) ≡ x

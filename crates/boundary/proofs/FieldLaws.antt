@@ -23,7 +23,7 @@ use Rattle.boundary.specs.Boxes.{limit, is_in_field, point_in_field, box_fits, B
 use mathlib.Core.List.{List}
 use native.Mathlib.Omega.{arith}
 use lib.ListN.{length, get_or}
-use borrow.Author.Tests.{not_false, eqb-false}
+use borrow.Author.Tests.{not-false, eqb-false}
 use Rattle.lists.specs.Lists.{any}
 use Rattle.lists.proofs.FoldLaws.{any_at_lem}
 use Rattle.boundary.specs.Outline.{count, after, vertex_at, edge_at}
@@ -147,7 +147,7 @@ widened_finite B f = record {
 -- ---- the edges of an outline whose numbers are all in the field
 module _ (v : List Float) (none : any (λ x. not (is_in_field x)) v ≡ false) where
   pub number_in_field : (i : ℕ) → i < length v → is_in_field (get_or v i nan) ≡ true
-  number_in_field i l = not_false (is_in_field (get_or v i nan)) (any_at_lem (λ x. not (is_in_field x)) nan v i l none)
+  number_in_field i l = not-false (is_in_field (get_or v i nan)) (any_at_lem (λ x. not (is_in_field x)) nan v i l none)
 
   vertex_in_field : (i : ℕ) → i < count v → point_in_field (vertex_at v i) ≡ true
   vertex_in_field i l = rw (number_in_field (2 * i) (omega arith), number_in_field (2 * i + 1) (omega arith))

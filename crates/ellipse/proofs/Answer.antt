@@ -3,7 +3,7 @@ use mathlib.Core.Path.{◌≡◌, refl, sym, subst}
 use mathlib.Core.Bool.{Bool, false, not, ◌&&◌}
 use Prim.Native.Nat.{ℕ}
 use native.Mathlib.Omega.{arith}
-use borrow.Author.Tests.{not_false}
+use borrow.Author.Tests.{not-false}
 use lib.Dec.{T}
 use lib.Ieee.{Float, binary64, add, sub, neg, le, fits}
 use lib.Ieee.Fits.{and_l, and_r, sub-fits}
@@ -89,7 +89,7 @@ ellipse_passed c a b p e =
     (holds (point_in_field p) t.1, holds (point_in_field c) t10.1, holds (ellipse_fits c a b p) t12.1)
   where
     holds : (x : Bool) → not x ≡ false → T x
-    holds x e = subst T (sym (not_false x e)) tt
+    holds x e = subst T (sym (not-false x e)) tt
 
 pub quadrant_answer : {c : Point} {a b : Float} {p : Point} {r : Distance} → FitsPoint c → T (fits binary64 a) → T (fits binary64 b) → FitsPoint p → ellipse_answer c a b p ≡ DistanceWith r → QuadrantAnswer c a b p r
 unfolding ellipse_answer ellipse_fits given piece_near

@@ -4,7 +4,7 @@ use mathlib.Core.Bool.{not}
 use mathlib.Core.List.{List}
 use Prim.Native.Nat.{ℕ, ◌≤◌}
 use native.Mathlib.Omega.{arith}
-use borrow.Author.Tests.{ltb-false, not_false}
+use borrow.Author.Tests.{ltb-false, not-false}
 use lib.Dec.{T, ltb}
 use lib.Ieee.{Float}
 use Rattle.number.specs.Exact.{Doubles}
@@ -31,7 +31,7 @@ fill_passed v c room e =
     let t = outline_tested v refusing BadBox when not (box_fits c) in
     let short = refusing_passed t ShortBuffer (ltb (half_of room) (count v)) e in
     let box = refusing_passed (outline_tested v) BadBox (not (box_fits c)) short.0 in
-    record { outline = box.0; cell = subst T (sym (not_false (box_fits c) box.1)) tt; enough = ltb-false (half_of room) (count v) short.1 }
+    record { outline = box.0; cell = subst T (sym (not-false (box_fits c) box.1)) tt; enough = ltb-false (half_of room) (count v) short.1 }
 
 -- the outline's numbers are in the field
 pub tested_numbers : (v : List Float) (c : Bounds) (room : ℕ) → Doubles v → fill_tested v c room ≡ Passed → FieldNumbers v

@@ -5,7 +5,7 @@ use mathlib.Core.Bool.{not}
 use mathlib.Core.List.{List, [], ◌∷◌}
 use Prim.Native.Nat.{ℕ, ◌+◌, ◌<◌}
 use native.Mathlib.Omega.{arith}
-use borrow.Author.Tests.{not_false}
+use borrow.Author.Tests.{not-false}
 use lib.Dec.{T}
 use lib.Ieee.{Float}
 use lib.Ieee.Fits.{and_l, and_r}
@@ -83,6 +83,6 @@ pub locate_rust_lem : (v : List Float) (p : Point) → query_tested v p ≡ Pass
 unfolding locate_of locate_rust edges query_tested
 locate_rust_lem v p passed =
     let two = refusing_passed (outline_tested v) BadPoint (not (point_in_field p)) passed in
-    let P = point_numbers p (subst T (sym (not_false (point_in_field p) two.1)) tt) in
+    let P = point_numbers p (subst T (sym (not-false (point_in_field p) two.1)) tt) in
     let same : (j : ℕ) → j < 0 + count v → on_edge p (edge_at v j) ≡ on_edge_rust p (edge_at v j) = λ j l. on_edge_same p (edge_at v j) P (edge_numbers v two.0 j (omega arith)) in
     rw (any_same (on_edge p) (on_edge_rust p) (edges v) (every_run (λ e. on_edge p e ≡ on_edge_rust p e) (edge_at v) 0 (count v) same))

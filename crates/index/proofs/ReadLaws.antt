@@ -2,7 +2,7 @@
 use mathlib.Core.Path.{◌≡◌, refl, sym, ap, ap₂, ◌∙◌}
 use mathlib.Core.List.{List, [], ◌∷◌, ◌++◌, flat_map}
 use Prim.Native.Nat.{ℕ, zero, suc, ◌+◌, ◌*◌, ◌^◌, ◌≤◌, ◌<◌}
-use native.Mathlib.Nat.{add_zero, pow-suc}
+use native.Mathlib.Nat.{add-zero, pow-suc}
 use native.Mathlib.Omega.{arith}
 use lib.Dec.{leb}
 use lib.ListN.{length, get_or, drop, get_or-append}
@@ -50,7 +50,7 @@ module _ (B : List Float) (L I : List ℕ) where
   -- a run that is two lists is the one, then the other
   two_runs : (a : ℕ) (xs ys : List ℕ) → run (item_at I) a (length (xs ++ ys)) ≡ xs ++ ys → (run (item_at I) a (length xs) ≡ xs) × (run (item_at I) (a + length xs) (length ys) ≡ ys)
   unfolding run
-  two_runs a [] ys e = (refl, ap (λ (k : ℕ). run (item_at I) k (length ys)) (add_zero a) ∙ e)
+  two_runs a [] ys e = (refl, ap (λ (k : ℕ). run (item_at I) k (length ys)) (add-zero a) ∙ e)
   two_runs a (x ∷ xs) ys e =
       let h : item_at I a ≡ x = cc in
       let r : run (item_at I) (suc a) (length (xs ++ ys)) ≡ xs ++ ys = cc in

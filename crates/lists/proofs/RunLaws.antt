@@ -2,7 +2,7 @@
 use mathlib.Core.Path.{◌≡◌, refl, ap, ◌∙◌}
 use mathlib.Core.List.{List, [], ◌∷◌, ◌++◌, map, reverse, reverse-cons}
 use Prim.Native.Nat.{ℕ, zero, suc, ◌+◌, ◌-◌, ◌≤◌, ◌<◌}
-use native.Mathlib.Nat.{add_zero}
+use native.Mathlib.Nat.{add-zero}
 use native.Mathlib.Decide.{ℕ_discrete}
 use native.Mathlib.Omega.{arith}
 use lib.ListN.{length, get_or, take, drop}
@@ -12,7 +12,7 @@ use Rattle.lists.specs.Lists.{run}
 pub run_at : {A : Type 0} (g : ℕ → A) (i k j : ℕ) (d : A) → j < k → get_or (run g i k) j d ≡ g (i + j)
 unfolding run
 run_at g i zero j d h = absurd (omega arith)
-run_at g i (suc k) zero d h = rw add_zero
+run_at g i (suc k) zero d h = rw add-zero
 run_at g i (suc k) (suc j) d h = run_at g (suc i) k j d (omega arith) ∙ ap g (omega arith)
 
 module _ {A : Type 0} where

@@ -4,7 +4,7 @@ use mathlib.Core.Bool.{true, false, not}
 use mathlib.Core.List.{List}
 use Prim.Native.Nat.{ℕ, ◌+◌, ◌%◌, ◌≤◌, ◌<◌}
 use native.Mathlib.Omega.{arith}
-use borrow.Author.Tests.{ne_eqb, ltb-false, not_false}
+use borrow.Author.Tests.{ne_eqb, ltb-false, not-false}
 use lib.Dec.{eqb, ltb}
 use lib.ListN.{length, get_or}
 use lib.Seq.{sets}
@@ -65,7 +65,7 @@ point_fits ps h i l =
     let n = length_run (vertex_at ps) 0 (count ps) in
     let z : 0 + i ≡ i = omega arith in
     let at : get_or (vertices ps) i (vertex_at ps 0) ≡ vertex_at ps i = run_at (vertex_at ps) 0 (count ps) i (vertex_at ps 0) l ∙ ap (vertex_at ps) z in
-    not_false (point_in_field (vertex_at ps i)) (rw at at (any_at_lem (λ p. not (point_in_field p)) (vertex_at ps 0) (vertices ps) i (omega arith) h))
+    not-false (point_in_field (vertex_at ps i)) (rw at at (any_at_lem (λ p. not (point_in_field p)) (vertex_at ps 0) (vertices ps) i (omega arith) h))
 
 -- ---- the answers, point by point
 module _ (os : List Outline) (ps : List Float) where

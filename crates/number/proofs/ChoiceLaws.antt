@@ -1,5 +1,5 @@
 -- The larger of a number from 1 on and a magnitude, and a number clamped to 0..1, by comparisons alone. Assumes nothing.
-use Rattle.std.proofs.Common.{◌≡◌, zero, suc, ◌+◌, ◌*◌, ◌<◌, Bool, true, false, cond, not, ◌&&◌, ◌||◌, T, eqb, ltb, ℤ, sym, refl, ap, ◌∙◌, subst, mul_pos, zero-mul, arith, le-ltb, lt-ltb, ne_eqb, eqb-true}
+use Rattle.std.proofs.Common.{◌≡◌, zero, suc, ◌+◌, ◌*◌, ◌<◌, Bool, true, false, cond, not, ◌&&◌, ◌||◌, T, eqb, ltb, ℤ, sym, refl, ap, ◌∙◌, subst, mul-pos, zero-mul, arith, le-ltb, lt-ltb, ne_eqb, eqb-true}
 use mathlib.Core.Bool.{false≢true}
 use lib.Ieee.{Float, nan, inf, fin, binary64, up, down, neg, lt, le, eq, is_nan, fits}
 use lib.Ieee.Bits.{is_true, is_false}
@@ -55,7 +55,7 @@ magnitude_serves s (fin true zero e) h =
     let z : ltb 0 (0 * up e * 1 + 0 * down e) ≡ false = le-ltb 0 (0 * up e * 1 + 0 * down e) (let p = zero-mul (up e) in let q = zero-mul (down e) in omega arith) in
     rw (z, from_one s h true e, from_one s h false e)
 magnitude_serves s (fin true (suc m) e) h =
-    let z : ltb 0 (suc m * up e * 1 + 0 * down e) ≡ true = lt-ltb 0 (suc m * up e * 1 + 0 * down e) (let p : 0 < suc m * up e = mul_pos (omega arith) (up_pos e) in omega arith) in
+    let z : ltb 0 (suc m * up e * 1 + 0 * down e) ≡ true = lt-ltb 0 (suc m * up e * 1 + 0 * down e) (let p : 0 < suc m * up e = mul-pos (omega arith) (up_pos e) in omega arith) in
     rw z
 
 abs_sign : (y : Float) → sign_bit (abs_of y) ≡ false

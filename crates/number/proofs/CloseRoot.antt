@@ -1,5 +1,5 @@
 -- How close `sqrt_of` is to the exact root of a number above zero: less than half a unit of its last digit. Assumes nothing.
-use Rattle.std.proofs.Common.{◌≡◌, ℕ, zero, suc, ◌+◌, ◌-◌, ◌*◌, ◌/◌, ◌%◌, ◌^◌, ◌<◌, ◌≤◌, Bool, true, false, cond, T, eqb, leb, sym, refl, ap, ◌∙◌, subst, le_of_eq, lt_of_lt_of_le, le_of_suc-le-suc, lt_of_le_of_lt, lt_irrefl, mul-le-mul_right, zero-lt-suc, mul_assoc, mul_pos, arith, ltb→lt, pow_pos, pow_mono, pow-add, shl_lt, leb-false, leb-true}
+use Rattle.std.proofs.Common.{◌≡◌, ℕ, zero, suc, ◌+◌, ◌-◌, ◌*◌, ◌/◌, ◌%◌, ◌^◌, ◌<◌, ◌≤◌, Bool, true, false, cond, T, eqb, leb, sym, refl, ap, ◌∙◌, subst, le_of_eq, lt_of_lt_of_le, le_of_suc-le-suc, lt_of_le_of_lt, lt_irrefl, mul-le-mul_right, zero-lt-suc, mul_assoc, mul-pos, arith, ltb→lt, pow_pos, pow_mono, pow-add, shl_lt, leb-false, leb-true}
 use native.Mathlib.Nat.{mul-mul-mul_comm}
 use lib.Ieee.{Float, nan, inf, fin, binary64, up, down, size, units, fits}
 use lib.Ieee.Digits.{size-lt, size-le, size_reaches}
@@ -151,4 +151,4 @@ sqrt_close x F p = at (scale_of_lem x F p)
 -- ---- above zero
 
 pub sqrt_above : (x : Float) → T (fits binary64 x) → T (positive x) → T (positive (sqrt_of x))
-sqrt_above x F p = let C = sqrt_close x F p in positive_of_value (sqrt_of x) (C.q * 2 ^ C.k) (2 ^ 1074) C.r_is (mul_pos (lt_of_lt_of_le (zero-lt-suc (2 ^ 52 - 1)) C.q_ge) (pow_pos C.k))
+sqrt_above x F p = let C = sqrt_close x F p in positive_of_value (sqrt_of x) (C.q * 2 ^ C.k) (2 ^ 1074) C.r_is (mul-pos (lt_of_lt_of_le (zero-lt-suc (2 ^ 52 - 1)) C.q_ge) (pow_pos C.k))

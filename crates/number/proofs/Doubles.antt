@@ -1,5 +1,5 @@
 -- What `fits binary64` says of a number, in units of 2 ^ -1074, the smallest double. Assumes nothing.
-use Rattle.std.proofs.Common.{◌≡◌, ℕ, zero, suc, ◌+◌, ◌-◌, ◌*◌, ◌%◌, ◌^◌, ◌<◌, ◌≤◌, Bool, ◌&&◌, T, eqb, ltb, leb, ◌⊎◌, ℤ, pos, negsuc, sym, refl, ap, ◌∙◌, subst, inl, inr, le_trans, mul-le-mul_right, mul_assoc, lt_of_mul-lt-mul_right, mul-lt-mul_of_pos_right, mul_pos, one-mul, zero-mul, mul-one, mul_right_comm, arith, eqb→eq, ltb→lt, leb→le, pow_pos, pow_mono, pow-add}
+use Rattle.std.proofs.Common.{◌≡◌, ℕ, zero, suc, ◌+◌, ◌-◌, ◌*◌, ◌%◌, ◌^◌, ◌<◌, ◌≤◌, Bool, ◌&&◌, T, eqb, ltb, leb, ◌⊎◌, ℤ, pos, negsuc, sym, refl, ap, ◌∙◌, subst, inl, inr, le_trans, mul-le-mul_right, mul_assoc, lt_of_mul-lt-mul_right, mul-lt-mul_of_pos_right, mul-pos, one-mul, zero-mul, mul-one, mul_right_comm, arith, eqb→eq, ltb→lt, leb→le, pow_pos, pow_mono, pow-add}
 use native.Mathlib.Nat.{pow-succ', eq_of_mul-eq-mul_right}
 use native.Mathlib.Decide.{dec_le}
 use lib.Ieee.{Float, nan, inf, fin, binary64, up, down, round, fits}
@@ -37,7 +37,7 @@ unfolding fits
 double s zero e F =
     let one : up e * down e ≡ 1 = eqb→eq (up e * down e) 1 F in
     let d : down e ≤ 1 = subst (λ (z : ℕ). z ≤ 1) (one-mul (down e)) (subst (λ (z : ℕ). 1 * down e ≤ z) one (mul-le-mul_right (down e) (up_pos e))) in
-    double_of 0 e (le_trans d (pow_pos 1074)) (pow_pos 53) (subst (λ (z : ℕ). z < 2 ^ 1024 * down e) (sym (zero-mul (up e))) (mul_pos (pow_pos 1024) (down_pos e)))
+    double_of 0 e (le_trans d (pow_pos 1074)) (pow_pos 53) (subst (λ (z : ℕ). z < 2 ^ 1024 * down e) (sym (zero-mul (up e))) (mul-pos (pow_pos 1024) (down_pos e)))
 double s (suc m) e F =
     let a = eqb (suc m % 2) 1 in
     let b = ltb (suc m) (2 ^ 53) in

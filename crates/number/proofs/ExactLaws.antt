@@ -1,5 +1,5 @@
 -- The operations on exact values: exact while the whole numbers stay within 2 ^ 53, and rounded once, in units of 2 ^ -1074, while nothing overflows. Assumes nothing.
-use Rattle.std.proofs.Common.{◌≡◌, ℕ, ◌+◌, ◌*◌, ◌^◌, ◌<◌, ◌≤◌, Bool, false, ℤ, pos, ◌+ℤ◌, ◌-ℤ◌, ◌*ℤ◌, nat_abs, sym, refl, ap, ◌∙◌, subst, le_trans, le_of_eq, add-le-add, mul-le-mul_right, mul-le-mul, mul_pos, one-mul, mul-one, pow_pos, pow-add}
+use Rattle.std.proofs.Common.{◌≡◌, ℕ, ◌+◌, ◌*◌, ◌^◌, ◌<◌, ◌≤◌, Bool, false, ℤ, pos, ◌+ℤ◌, ◌-ℤ◌, ◌*ℤ◌, nat_abs, sym, refl, ap, ◌∙◌, subst, le_trans, le_of_eq, add-le-add, mul-le-mul_right, mul-le-mul, mul-pos, one-mul, mul-one, pow_pos, pow-add}
 use lib.Ieee.{Float, fin, binary64, add, sub, mul, div}
 use Rattle.algebra.specs.Int.{*ℤ-assoc}
 use Rattle.algebra.specs.Order.{nat_abs_add, nat_abs_neg, nat_abs_mul, pos_lt}
@@ -58,4 +58,4 @@ div_result {x} {y} {z} {b} k j i e t h g B l =
     ap (λ (n : ℕ). signed t 1 *ℤ z *ℤ pos (2 ^ n)) (sym e) ∙ ap (λ (n : ℕ). signed t 1 *ℤ z *ℤ pos n) (pow-add 2 i j) ∙ sym (*ℤ-assoc (signed t 1 *ℤ z) (pos (2 ^ i)) (pos (2 ^ j))) in
     result_cancel (pos (2 ^ j)) (pos_lt (pow_pos j))
     (subst (λ (n : ℤ). Result (div binary64 x y) n (pos (b * 2 ^ j))) split
-    (rounds_result (div_rounds t h divisor (mul_pos B (pow_pos j))) (le_trans (le_of_eq same_size) (le_trans l (mul-le-mul_right (2 ^ 1022) grow)))))
+    (rounds_result (div_rounds t h divisor (mul-pos B (pow_pos j))) (le_trans (le_of_eq same_size) (le_trans l (mul-le-mul_right (2 ^ 1022) grow)))))

@@ -1,5 +1,5 @@
 -- `hypot_of` where one argument is zero: the magnitude of the other, exactly, as long as its square neither underflows nor overflows. Assumes nothing.
-use Rattle.std.proofs.Common.{◌≡◌, ℕ, zero, suc, ◌+◌, ◌-◌, ◌*◌, ◌^◌, ◌<◌, ◌≤◌, Bool, true, false, ◌&&◌, T, ℤ, pos, negsuc, sym, refl, ap, ◌∙◌, subst, ap₂, le_trans, le_of_eq, lt_of_lt_of_le, lt_of_le_of_lt, mul-le-mul_right, mul_assoc, mul-le-mul, lt_of_mul-lt-mul_right, mul-le-mul_left, mul-lt-mul_of_pos_right, mul_pos, mul-one, mul_right_comm, le_of_mul-le-mul_right, arith, lit<, ltb→lt, pow_pos, pow_mono, pow-add, shl_lt}
+use Rattle.std.proofs.Common.{◌≡◌, ℕ, zero, suc, ◌+◌, ◌-◌, ◌*◌, ◌^◌, ◌<◌, ◌≤◌, Bool, true, false, ◌&&◌, T, ℤ, pos, negsuc, sym, refl, ap, ◌∙◌, subst, ap₂, le_trans, le_of_eq, lt_of_lt_of_le, lt_of_le_of_lt, mul-le-mul_right, mul_assoc, mul-le-mul, lt_of_mul-lt-mul_right, mul-le-mul_left, mul-lt-mul_of_pos_right, mul-pos, mul-one, mul_right_comm, le_of_mul-le-mul_right, arith, lit<, ltb→lt, pow_pos, pow_mono, pow-add, shl_lt}
 use mathlib.Core.Bool.{false≢true}
 use native.Mathlib.Nat.{eq_of_mul-eq-mul_right}
 use native.Mathlib.Decide.{dec_le}
@@ -60,14 +60,14 @@ module _ (q i p d : ℕ) (P : p < 2) (lo : 2 ^ 52 ≤ q) (hi : q < 2 ^ 53) (I : 
       ∙ ap₂ ◌*◌ (pow-add 2 52 (k + k) ∙ ap (λ (z : ℕ). 2 ^ 52 * z) (pow-add 2 k k)) (two_pow_bit p P) ∙ mul_right_comm (2 ^ 52) (2 ^ k * 2 ^ k) (1 + p)
 
   rounded : square ≡ units binary64 false c d
-  rounded = round_at false (q * 2 ^ k * (q * 2 ^ k)) (2 ^ 1074 * 2 ^ 1074) d (q * q) E (mul_pos (pow_pos 1074) (pow_pos 1074)) (omega arith) (same (2 ^ k) (2 ^ 1074) (2 ^ d) unit) from to
+  rounded = round_at false (q * 2 ^ k * (q * 2 ^ k)) (2 ^ 1074 * 2 ^ 1074) d (q * q) E (mul-pos (pow_pos 1074) (pow_pos 1074)) (omega arith) (same (2 ^ k) (2 ^ 1074) (2 ^ d) unit) from to
     where
       same : (K C D : ℕ) → D * C ≡ E * (K * K) → q * K * (q * K) * C * E ≡ q * q * (C * C * D)
       same K C D e = omega (arith, ap (λ (z : ℕ). q * q * C * z) e)
 
   small : c * 2 ^ d < 2 ^ 2098
   small = lt_of_mul-lt-mul_right (2 ^ 1074) (lt_of_le_of_lt (le_trans (le_of_eq (regroup (2 ^ k) (2 ^ d) (2 ^ 1074) unit)) (mul-le-mul_right (2 ^ 52 * (2 ^ k * 2 ^ k)) good.2))
-      (lt_of_lt_of_le (mul-lt-mul_of_pos_right (lit< tt) (mul_pos (pow_pos 52) (mul_pos (pow_pos k) (pow_pos k)))) (mul-le-mul_left (2 ^ 54) (mul-le-mul_left (2 ^ 52) (mul-le-mul top top)))))
+      (lt_of_lt_of_le (mul-lt-mul_of_pos_right (lit< tt) (mul-pos (pow_pos 52) (mul-pos (pow_pos k) (pow_pos k)))) (mul-le-mul_left (2 ^ 54) (mul-le-mul_left (2 ^ 52) (mul-le-mul top top)))))
     where
       regroup : (K D C : ℕ) → D * C ≡ E * (K * K) → c * D * C ≡ c * (1 + p) * (2 ^ 52 * (K * K))
       regroup K D C e = omega (arith, ap (λ (z : ℕ). c * z) e)
@@ -79,7 +79,7 @@ module _ (q i p d : ℕ) (P : p < 2) (lo : 2 ^ 52 ≤ q) (hi : q < 2 ^ 53) (I : 
   square_root =
       let v : HasValue square false (c * 2 ^ d) (2 ^ 1074) = subst (λ (x : Float). HasValue x false (c * 2 ^ d) (2 ^ 1074)) (sym rounded) (units_val binary64 false c d small) in
       let C : 0 < c = first_pos c (1 + p) (lt_of_lt_of_le (pow_pos 52) good.1) in
-      let s : T (positive square) = positive_of_value square (c * 2 ^ d) (2 ^ 1074) v (mul_pos C (pow_pos d)) in
+      let s : T (positive square) = positive_of_value square (c * 2 ^ d) (2 ^ 1074) v (mul-pos C (pow_pos d)) in
       sqrt_units square (c * 2 ^ d) s v ∙ ap root_of scale ∙ root_units (c * (1 + p)) i q good.1 good.2 good.0
     where
       regroup : (D A B C J u : ℕ) → A * B ≡ C → B ≡ u * u → D * C ≡ E * (J * u * (J * u)) → c * D * A * B ≡ c * (1 + p) * 2 ^ 52 * (J * J) * B
@@ -147,8 +147,8 @@ root_of_square x F R =
 -- ---- a zero adds nothing
 zero_square : (s : Bool) (e : ℤ) → mul binary64 (fin s 0 e) (fin s 0 e) ≡ zeroᶠ
 unfolding mul
-zero_square true e = round_same binary64 false (0 * up e * (0 * up e)) (down e * down e) 0 1 (mul_pos (down_pos e) (down_pos e)) (lit< tt) (omega arith) ∙ round_zero false 1 (lit< tt)
-zero_square false e = round_same binary64 false (0 * up e * (0 * up e)) (down e * down e) 0 1 (mul_pos (down_pos e) (down_pos e)) (lit< tt) (omega arith) ∙ round_zero false 1 (lit< tt)
+zero_square true e = round_same binary64 false (0 * up e * (0 * up e)) (down e * down e) 0 1 (mul-pos (down_pos e) (down_pos e)) (lit< tt) (omega arith) ∙ round_zero false 1 (lit< tt)
+zero_square false e = round_same binary64 false (0 * up e * (0 * up e)) (down e * down e) 0 1 (mul-pos (down_pos e) (down_pos e)) (lit< tt) (omega arith) ∙ round_zero false 1 (lit< tt)
 
 -- ---- the law, and two zeros
 pub hypot_axis : (a : Float) (s : Bool) (d : ℤ) → T (fits binary64 a) → T (le square_least (abs_of a)) → T (lt (abs_of a) square_end) → hypot_of a (fin s 0 d) ≡ abs_of a

@@ -1,5 +1,5 @@
 -- The errors of the root and of `hypot`: within 2 ^ -52 and 2 ^ -50 of the exact one, said of the squares, all in units of 2 ^ -1074. Assumes nothing.
-use Rattle.std.proofs.Common.{◌≡◌, ℕ, ◌+◌, ◌-◌, ◌*◌, ◌^◌, ◌<◌, ◌≤◌, Bool, true, false, T, [], ◌∷◌, ℤ, pos, ◌+ℤ◌, ◌-ℤ◌, ◌*ℤ◌, neg_ℤ, nat_abs, sym, refl, ◌∙◌, subst, ⊎_elim, le_trans, le_of_lt, add-le-add, lt_irrefl, eq-zero-or-pos, mul-le-mul, mul_pos, zero-mul, arith, lit≤, pow_pos, eq-eqb}
+use Rattle.std.proofs.Common.{◌≡◌, ℕ, ◌+◌, ◌-◌, ◌*◌, ◌^◌, ◌<◌, ◌≤◌, Bool, true, false, T, [], ◌∷◌, ℤ, pos, ◌+ℤ◌, ◌-ℤ◌, ◌*ℤ◌, neg_ℤ, nat_abs, sym, refl, ◌∙◌, subst, ⊎_elim, le_trans, le_of_lt, add-le-add, lt_irrefl, eq-zero-or-pos, mul-le-mul, mul-pos, zero-mul, arith, lit≤, pow_pos, eq-eqb}
 use lib.Ieee.{Float, fin, binary64, up, down, add, mul, fits}
 use lib.Ieee.Fits.{up_pos, down_pos, add-fits}
 use lib.Ieee.Exact.{HasValue}
@@ -68,7 +68,7 @@ root_of_zero {k} {x} h = at x (is→equation h)
     at : (x : Float) → Equation k x (pos 0) → sqrt_of x ≡ x
     at (fin s m e) h =
         let none : m * up e * 2 ^ k ≡ 0 = (signed_cross s (m * up e) (down e) (2 ^ k) (pos 0) (down_pos e) h).0 ∙ zero-mul (down e) in
-        let z : m ≡ 0 = ⊎_elim (λ z. z) (λ (M : 0 < m). absurd (lt_irrefl 0 (subst (λ (v : ℕ). 0 < v) none (mul_pos (mul_pos M (up_pos e)) (pow_pos k))))) (eq-zero-or-pos m) in
+        let z : m ≡ 0 = ⊎_elim (λ z. z) (λ (M : 0 < m). absurd (lt_irrefl 0 (subst (λ (v : ℕ). 0 < v) none (mul-pos (mul-pos M (up_pos e)) (pow_pos k))))) (eq-zero-or-pos m) in
         rw (eq-eqb m 0 z)
 
 pub sqrt_relative : {x : Float} {y : ℤ} → Is 1074 x y → T (fits binary64 x) → pos 0 ≦ y → RootNear (sqrt_of x) y

@@ -1,6 +1,6 @@
 -- Where `hypot_of` is zero: where both squares round to zero, which is said in whole numbers too. Assumes nothing.
-use Rattle.std.proofs.Common.{◌≡◌, ℕ, zero, suc, ◌+◌, ◌*◌, ◌^◌, ◌<◌, Bool, true, false, ◌&&◌, T, leb, ◌⊎◌, ℤ, pos, negsuc, nat_abs, sym, refl, ap, ◌∙◌, subst, ap₂, inl, inr, mul-le-mul_right, zero-lt-suc, mul_pos, arith, lt→ltb, pow_pos, leb-false, leb-true}
-use mathlib.Core.Bool.{and_false, and_comm}
+use Rattle.std.proofs.Common.{◌≡◌, ℕ, zero, suc, ◌+◌, ◌*◌, ◌^◌, ◌<◌, Bool, true, false, ◌&&◌, T, leb, ◌⊎◌, ℤ, pos, negsuc, nat_abs, sym, refl, ap, ◌∙◌, subst, ap₂, inl, inr, mul-le-mul_right, zero-lt-suc, mul-pos, arith, lt→ltb, pow_pos, leb-false, leb-true}
+use mathlib.Core.Bool.{and-false, and_comm}
 use lib.Ieee.{Float, nan, inf, fin, binary64, up, down, round, add, mul, le, eq, fits}
 use lib.Ieee.Fits.{up_pos, down_pos, add-fits, mul-fits}
 use lib.Ieee.Order.{round_mono}
@@ -31,14 +31,14 @@ sum_zero : {x y : Float} → Plus x → Plus y → T (fits binary64 x) → T (fi
 unfolding add eq fits
 sum_zero plus_inf plus_inf F G = refl
 sum_zero plus_inf (plus_fin n d) F G = refl
-sum_zero (plus_fin m e) plus_inf F G = sym (and_false (eq (fin false m e) zeroᶠ))
+sum_zero (plus_fin m e) plus_inf F G = sym (and-false (eq (fin false m e) zeroᶠ))
 sum_zero (plus_fin (suc m) e) (plus_fin n d) F G = sum_not_zero m e (plus_fin n d) F ∙ sym (ap (λ (b : Bool). b && eq (fin false n d) zeroᶠ) (not_zero false m e))
 sum_zero (plus_fin zero e) (plus_fin (suc n) d) F G =
     ap (λ (v : Float). eq v zeroᶠ) (add_swap binary64 (fin false 0 e) (fin false (suc n) d))
     ∙ sum_not_zero n d (plus_fin 0 e) G
-    ∙ sym (ap (λ (b : Bool). eq (fin false 0 e) zeroᶠ && b) (not_zero false n d) ∙ and_false (eq (fin false 0 e) zeroᶠ))
+    ∙ sym (ap (λ (b : Bool). eq (fin false 0 e) zeroᶠ && b) (not_zero false n d) ∙ and-false (eq (fin false 0 e) zeroᶠ))
 sum_zero (plus_fin zero e) (plus_fin zero d) F G =
-    ap (λ (v : Float). eq v zeroᶠ) (round_same binary64 false (0 * up e * down d + 0 * up d * down e) (down e * down d) 0 1 (mul_pos (down_pos e) (down_pos d)) (zero-lt-suc 0) (omega arith) ∙ round_fixed false 0 (pos 0) tt)
+    ap (λ (v : Float). eq v zeroᶠ) (round_same binary64 false (0 * up e * down d + 0 * up d * down e) (down e * down d) 0 1 (mul-pos (down_pos e) (down_pos d)) (zero-lt-suc 0) (omega arith) ∙ round_fixed false 0 (pos 0) tt)
     ∙ sym (ap₂ ◌&&◌ (is_zero false e) (is_zero false d))
 
 root_zero : {x : Float} → Plus x → T (fits binary64 x) → eq (sqrt_of x) zeroᶠ ≡ eq x zeroᶠ
@@ -76,7 +76,7 @@ at_most_zero : {x : Float} → Plus x → T (le x zeroᶠ) → eq x zeroᶠ ≡ 
 unfolding le
 at_most_zero plus_inf h = absurd h
 at_most_zero (plus_fin zero e) h = is_zero false e
-at_most_zero (plus_fin (suc m) e) h = absurd (omega (arith, le_says (suc m) e 0 (pos 0) h, mul_pos (zero-lt-suc m) (up_pos e)))
+at_most_zero (plus_fin (suc m) e) h = absurd (omega (arith, le_says (suc m) e 0 (pos 0) h, mul-pos (zero-lt-suc m) (up_pos e)))
 
 pub vanishes_is : (a : Float) (z : ℤ) → Is 1074 a z → vanishes a ≡ leb (nat_abs z * nat_abs z) (2 ^ 1073)
 unfolding vanishes
@@ -92,7 +92,7 @@ vanishes_is a z I =
     c = 2 ^ 1074 * 2 ^ 1074
 
     C : 0 < c
-    C = mul_pos (pow_pos 1074) (pow_pos 1074)
+    C = mul-pos (pow_pos 1074) (pow_pos 1074)
 
     go : (b : Bool) → leb n (2 ^ 1073) ≡ b → eq (round binary64 false n c) zeroᶠ ≡ b
     go true h = at_most_zero (round_plus n c) (subst (λ (v : Float). T (le (round binary64 false n c) v)) half_rounds_to_zero (round_mono binary64 n c (2 ^ 1073) c C C (mul-le-mul_right c (leb-true n (2 ^ 1073) h))))

@@ -1,5 +1,5 @@
 -- The whole number nearest to a root is what `root_of` rounds to. Assumes nothing.
-use Rattle.std.proofs.Common.{◌≡◌, ℕ, zero, suc, ◌+◌, ◌-◌, ◌*◌, ◌/◌, ◌%◌, ◌^◌, ◌<◌, ◌≤◌, false, T, sym, refl, ap, ◌∙◌, subst, ap₂, mul-le-mul_right, mul_assoc, mul-le-mul_left, mul-lt-mul_of_pos_right, mul_pos, arith, pow_pos, pow-add}
+use Rattle.std.proofs.Common.{◌≡◌, ℕ, zero, suc, ◌+◌, ◌-◌, ◌*◌, ◌/◌, ◌%◌, ◌^◌, ◌<◌, ◌≤◌, false, T, sym, refl, ap, ◌∙◌, subst, ap₂, mul-le-mul_right, mul_assoc, mul-le-mul_left, mul-lt-mul_of_pos_right, mul-pos, arith, pow_pos, pow-add}
 use native.Mathlib.Nat.{le-pred_of_lt, pow-succ'}
 use native.Mathlib.Omega.{by_contra}
 use lib.Ieee.{binary64, units, to_bits, of_bits, fits}
@@ -27,19 +27,19 @@ low_side M B zero P h = omega arith
 low_side M B (suc p) P h =
     let u = p + suc p in
     let l : u * u < 4 * M = omega arith in
-    omega (arith, above_twice (M * (2 * B * (2 * B))) (u * B) (omega (arith, mul-lt-mul_of_pos_right l (mul_pos P P))))
+    omega (arith, above_twice (M * (2 * B * (2 * B))) (u * B) (omega (arith, mul-lt-mul_of_pos_right l (mul-pos P P))))
 
 high_side : (M B q : ℕ) → 0 < B → M ≤ q * q + q → twice_root (M * (2 * B * (2 * B))) < q * (2 * (2 * B)) + 2 * B
 high_side M B q P h =
     let v = q + suc q in
     let l : 4 * M < v * v = omega arith in
-    omega (arith, below_twice (M * (2 * B * (2 * B))) (v * B) (omega (arith, mul-lt-mul_of_pos_right l (mul_pos P P))))
+    omega (arith, below_twice (M * (2 * B * (2 * B))) (v * B) (omega (arith, mul-lt-mul_of_pos_right l (mul-pos P P))))
 
 range_low : (M A : ℕ) → 2 ^ 104 ≤ M → 2 ^ 53 * A ≤ twice_root (M * (A * A))
 range_low M A h = omega (arith, above_twice_le (M * (A * A)) (2 ^ 52 * A) (omega (arith, mul-le-mul_right (A * A) h)))
 
 range_high : (M A : ℕ) → 0 < A → M < 2 ^ 106 → twice_root (M * (A * A)) < 2 ^ 54 * A
-range_high M A P h = omega (arith, below_twice (M * (A * A)) (2 ^ 53 * A) (omega (arith, mul-lt-mul_of_pos_right h (mul_pos P P))))
+range_high M A P h = omega (arith, below_twice (M * (A * A)) (2 ^ 53 * A) (omega (arith, mul-lt-mul_of_pos_right h (mul-pos P P))))
 
 -- ---- the root of c * 2 ^ 52 * 4 ^ j, and its bits
 

@@ -1,5 +1,5 @@
 -- The meaning of `sqrt_of`: it is the finite double nearest to the exact root, and no other is as near. Beside it, IEEE 754's answers at the other arguments, and examples. Assumes nothing.
-use Rattle.std.proofs.Common.{◌≡◌, ℕ, zero, suc, ◌+◌, ◌-◌, ◌*◌, ◌^◌, ◌<◌, ◌≤◌, Bool, true, false, cond, T, ◌⊎◌, ℤ, pos, negsuc, ◌+ℤ◌, neg_ℤ, refl, ap, ◌∙◌, subst, inl, inr, mul-le-mul_right, mul-le-mul, mul-lt-mul_of_pos_right, mul_pos, arith, pow_pos}
+use Rattle.std.proofs.Common.{◌≡◌, ℕ, zero, suc, ◌+◌, ◌-◌, ◌*◌, ◌^◌, ◌<◌, ◌≤◌, Bool, true, false, cond, T, ◌⊎◌, ℤ, pos, negsuc, ◌+ℤ◌, neg_ℤ, refl, ap, ◌∙◌, subst, inl, inr, mul-le-mul_right, mul-le-mul, mul-lt-mul_of_pos_right, mul-pos, arith, pow_pos}
 use native.Mathlib.Decide.{dec_le}
 use lib.Dec.{eqb-suc-zero}
 use lib.Ieee.{Float, nan, inf, fin, binary64, of_bits, fits}
@@ -26,12 +26,12 @@ module _ (M p P : ℕ) (some : 0 < P) (low : suc p * suc p < M + suc p) (high : 
   nearer_above : (Y : ℤ) → pos (suc (suc p) * P) ≦ Y → Nearer (M * (P * P)) (pos (suc p * P)) Y
   nearer_above Y h =
       let half : 4 * M < (suc p + suc (suc p)) * (suc p + suc (suc p)) = omega arith in
-      inl (omega (ord, some), above_root (M * (P * P)) ((suc p + suc (suc p)) * P) (pos (suc p * P) +ℤ Y) (omega (ord, add_parts (pos (suc p * P)) Y)) (omega (arith, mul-lt-mul_of_pos_right half (mul_pos some some))))
+      inl (omega (ord, some), above_root (M * (P * P)) ((suc p + suc (suc p)) * P) (pos (suc p * P) +ℤ Y) (omega (ord, add_parts (pos (suc p * P)) Y)) (omega (arith, mul-lt-mul_of_pos_right half (mul-pos some some))))
 
   nearer_below : (Y : ℤ) → Y ≦ pos (p * P) → Nearer (M * (P * P)) (pos (suc p * P)) Y
   nearer_below Y h =
       let half : (p + suc p) * (p + suc p) < 4 * M = omega arith in
-      inr (omega (ord, some), below_root (M * (P * P)) ((p + suc p) * P) (pos (suc p * P) +ℤ Y) (omega (ord, add_parts (pos (suc p * P)) Y)) (omega (arith, mul-lt-mul_of_pos_right half (mul_pos some some))))
+      inr (omega (ord, some), below_root (M * (P * P)) ((p + suc p) * P) (pos (suc p * P) +ℤ Y) (omega (ord, add_parts (pos (suc p * P)) Y)) (omega (arith, mul-lt-mul_of_pos_right half (mul-pos some some))))
 
   -- below 2 ^ 52 P the doubles are closer to each other than P, but √M is at least 2 ^ 52
   nearer_small : 2 ^ 52 ≤ suc p → 2 ^ 104 ≤ M → (Y : ℤ) → Y ≺ pos (2 ^ 52 * P) → Nearer (M * (P * P)) (pos (suc p * P)) Y

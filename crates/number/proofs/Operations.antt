@@ -1,5 +1,5 @@
 -- Every operation on finite floats is its exact value rounded once, and the laws of exact values behind that. Assumes nothing.
-use Rattle.std.proofs.Common.{◌≡◌, ℕ, zero, suc, ◌+◌, ◌-◌, ◌*◌, ◌%◌, ◌^◌, ◌<◌, ◌≤◌, Bool, true, false, cond, not, ◌&&◌, T, eqb, ltb, leb, [], ◌∷◌, ℤ, pos, negsuc, ◌+ℤ◌, ◌-ℤ◌, ◌*ℤ◌, neg_ℤ, nat_abs, sym, refl, ap, ◌∙◌, subst, ap₂, ⊎_elim, le_trans, le_of_eq, le_refl, lt_of_lt_of_le, le_of_suc-le-suc, lt_irrefl, mul_comm, eq-or-lt_of_le, mul_pos, one-mul, lt_of_not-le, zero-mul, mul-one, not-le_of_lt, arith, eqb→eq, leb→le, pow_pos, pow_mono, pow-add, le-ltb, lt-ltb, ne_eqb}
+use Rattle.std.proofs.Common.{◌≡◌, ℕ, zero, suc, ◌+◌, ◌-◌, ◌*◌, ◌%◌, ◌^◌, ◌<◌, ◌≤◌, Bool, true, false, cond, not, ◌&&◌, T, eqb, ltb, leb, [], ◌∷◌, ℤ, pos, negsuc, ◌+ℤ◌, ◌-ℤ◌, ◌*ℤ◌, neg_ℤ, nat_abs, sym, refl, ap, ◌∙◌, subst, ap₂, ⊎_elim, le_trans, le_of_eq, le_refl, lt_of_lt_of_le, le_of_suc-le-suc, lt_irrefl, mul_comm, eq-or-lt_of_le, mul-pos, one-mul, lt_of_not-le, zero-mul, mul-one, not-le_of_lt, arith, eqb→eq, leb→le, pow_pos, pow_mono, pow-add, le-ltb, lt-ltb, ne_eqb}
 use native.Mathlib.Decide.{dec_le}
 use lib.Pow.{pow-lt}
 use lib.Ieee.{Float, nan, inf, fin, binary64, up, down, unlike, round, sum, add, sub, mul, div, neg, fits}
@@ -145,7 +145,7 @@ add_rounds {k} {x} {y} {z} {w} h g = at x y (is→equation h) (is→equation g)
 
     at : (x y : Float) → Equation k x z → Equation k y w → Rounds (add binary64 x y) (z +ℤ w) (2 ^ k)
     at (fin s m d) (fin t n f) h g =
-        rounds_same (sum_rounds s t (m * up d * down f) (n * up f * down d) (down d * down f) (mul_pos (down_pos d) (down_pos f))) (pow_pos k)
+        rounds_same (sum_rounds s t (m * up d * down f) (n * up f * down d) (down d * down f) (mul-pos (down_pos d) (down_pos f))) (pow_pos k)
         (ap (λ (v : ℤ). v *ℤ pos (2 ^ k)) (sym (ap₂ ◌+ℤ◌ (mul_signed_pos s (m * up d) (down f)) (mul_signed_pos t (n * up f) (down d))))
         ∙ over_one (signed s (m * up d)) (signed t (n * up f)) z w (pos (down d)) (pos (down f)) (pos (2 ^ k)) h g)
 
@@ -166,7 +166,7 @@ mul_rounds {j} {k} {x} {y} {z} {w} h g = at x y (is→equation h) (is→equation
     at (fin s m d) (fin t n f) h g =
         let a = signed s (m * up d) in
         let b = signed t (n * up f) in
-        rounds_same (record { sign = unlike s t; mag = m * up d * (n * up f); den_pos = mul_pos (down_pos d) (down_pos f); same = refl; val = sym (mul_signed s t (m * up d) (n * up f)) }) (pow_pos (j + k))
+        rounds_same (record { sign = unlike s t; mag = m * up d * (n * up f); den_pos = mul-pos (down_pos d) (down_pos f); same = refl; val = sym (mul_signed s t (m * up d) (n * up f)) }) (pow_pos (j + k))
         (ap (λ (p : ℕ). a *ℤ b *ℤ pos p) (pow-add 2 j k) ∙ swap a b (pos (2 ^ j)) (pos (2 ^ k)) ∙ ap₂ ◌*ℤ◌ h g ∙ swap z (pos (down d)) w (pos (down f)))
 
 -- the divisor is ±b / 2 ^ k, and its sign goes to the dividend
@@ -191,9 +191,9 @@ div_rounds {k} {x} {y} {z} t {b} h g B = at x y (is→equation h) (is→equation
     at : (x y : Float) → Equation k x z → Equation k y (signed t b) → Rounds (div binary64 x y) (signed t 1 *ℤ z) b
     at (fin s m d) (fin r n f) h g =
         let size : n * up f * 2 ^ k ≡ b * down f = (signed_cross r (n * up f) (down f) (2 ^ k) (signed t b) (down_pos f) g).0 ∙ ap (λ (v : ℕ). v * down f) (nat_abs_signed t b) in
-        let some : 0 < n * up f = first_pos (n * up f) (2 ^ k) (subst (λ (v : ℕ). 0 < v) (sym size) (mul_pos B (down_pos f))) in
+        let some : 0 < n * up f = first_pos (n * up f) (2 ^ k) (subst (λ (v : ℕ). 0 < v) (sym size) (mul-pos B (down_pos f))) in
         let N : n ≡ 0 → ⊥ = λ e. lt_irrefl 0 (subst (λ (v : ℕ). 0 < v) e (first_pos n (up f) some)) in
-        rounds_same (record { sign = unlike s r; mag = m * up d * down f; den_pos = mul_pos some (down_pos d); same = rw (ne_eqb n 0 N); val = sym (mul_signed s r (m * up d) (down f)) }) B
+        rounds_same (record { sign = unlike s r; mag = m * up d * down f; den_pos = mul-pos some (down_pos d); same = rw (ne_eqb n 0 N); val = sym (mul_signed s r (m * up d) (down f)) }) B
         (ap (λ (v : ℤ). signed s (m * up d) *ℤ v *ℤ pos b) (unit r (down f))
         ∙ over (signed s (m * up d)) (signed r 1) (signed t 1) z (pos (n * up f)) (pos b) (pos (down d)) (pos (down f)) (pos (2 ^ k)) (unit_square r) (unit_square t) h
         (ap (λ (v : ℤ). v *ℤ pos (2 ^ k)) (sym (unit r (n * up f))) ∙ g ∙ ap (λ (v : ℤ). v *ℤ pos (down f)) (unit t b)))

@@ -1,5 +1,5 @@
 -- Floats without a minus sign: their order, their sums, and squares. Assumes nothing.
-use Rattle.std.proofs.Common.{◌≡◌, ℕ, ◌+◌, ◌-◌, ◌*◌, ◌<◌, ◌≤◌, Bool, true, false, cond, not, ◌&&◌, ◌||◌, T, eqb, ltb, ℤ, sym, refl, ap, ◌∙◌, subst, ⊎_elim, le_of_eq, le_of_lt, mul-le-mul_right, zero-lt-suc, mul_comm, mul-le-mul, add_comm, mul_pos, arith, eqb→eq, ltb→lt, ltb-false, ltb-true}
+use Rattle.std.proofs.Common.{◌≡◌, ℕ, ◌+◌, ◌-◌, ◌*◌, ◌<◌, ◌≤◌, Bool, true, false, cond, not, ◌&&◌, ◌||◌, T, eqb, ltb, ℤ, sym, refl, ap, ◌∙◌, subst, ⊎_elim, le_of_eq, le_of_lt, mul-le-mul_right, zero-lt-suc, mul_comm, mul-le-mul, add_comm, mul-pos, arith, eqb→eq, ltb→lt, ltb-false, ltb-true}
 use native.Mathlib.Nat.{mul-mul-mul_comm}
 use lib.Ieee.{Float, nan, inf, fin, Format, binary64, up, down, round, sum, add, mul, le, fits, is_nan}
 use lib.Ieee.Fits.{down_pos, and_l}
@@ -64,7 +64,7 @@ plus_add_mono p q (plus_fin m' e') plus_inf h k = le_inf (add_plus p q)
 plus_add_mono plus_inf q (plus_fin m' e') (plus_fin n' d') h k = absurd h
 plus_add_mono (plus_fin m e) plus_inf (plus_fin m' e') (plus_fin n' d') h k = absurd k
 plus_add_mono (plus_fin m e) (plus_fin n d) (plus_fin m' e') (plus_fin n' d') h k =
-    round_mono binary64 (m * up e * down d + n * up d * down e) (down e * down d) (m' * up e' * down d' + n' * up d' * down e') (down e' * down d') (mul_pos (down_pos e) (down_pos d)) (mul_pos (down_pos e') (down_pos d'))
+    round_mono binary64 (m * up e * down d + n * up d * down e) (down e * down d) (m' * up e' * down d' + n' * up d' * down e') (down e' * down d') (mul-pos (down_pos e) (down_pos d)) (mul-pos (down_pos e') (down_pos d'))
     (cross (m * up e) (n * up d) (down e) (down d) (m' * up e') (n' * up d') (down e') (down d') (le_says m e m' e' h) (le_says n d n' d' k))
   where
     cross : (a b u w a' b' u' w' : ℕ) → a * u' ≤ a' * u → b * w' ≤ b' * w → (a * w + b * u) * (u' * w') ≤ (a' * w' + b' * u') * (u * w)
@@ -110,13 +110,13 @@ le_add plus_inf (plus_fin n d) F = tt
 le_add (plus_fin m e) plus_inf F = tt
 le_add (plus_fin m e) (plus_fin n d) F =
     subst (λ (v : Float). T (le v (add binary64 (fin false m e) (fin false n d)))) (round_fixed false m e F)
-    (round_mono binary64 (m * up e) (down e) (m * up e * down d + n * up d * down e) (down e * down d) (down_pos e) (mul_pos (down_pos e) (down_pos d)) (omega arith))
+    (round_mono binary64 (m * up e) (down e) (m * up e * down d + n * up d * down e) (down e * down d) (down_pos e) (mul-pos (down_pos e) (down_pos d)) (omega arith))
 
 pub add_zero : {x : Float} → Plus x → T (fits binary64 x) → add binary64 x zeroᶠ ≡ x
 unfolding add
 add_zero plus_inf F = refl
 add_zero (plus_fin m e) F =
-    round_same binary64 false (m * up e * 1 + 0 * 1 * down e) (down e * 1) (m * up e) (down e) (mul_pos (down_pos e) (zero-lt-suc 0)) (down_pos e) (omega arith) ∙ round_fixed false m e F
+    round_same binary64 false (m * up e * 1 + 0 * 1 * down e) (down e * 1) (m * up e) (down e) (mul-pos (down_pos e) (zero-lt-suc 0)) (down_pos e) (omega arith) ∙ round_fixed false m e F
 
 -- ---- squares
 pub square_plus : {x : Float} → Plus x → Plus (mul binary64 x x)
@@ -129,7 +129,7 @@ unfolding mul le
 square_mono p plus_inf h = le_inf (square_plus p)
 square_mono plus_inf (plus_fin n d) h = absurd h
 square_mono (plus_fin m e) (plus_fin n d) h =
-    round_mono binary64 (m * up e * (m * up e)) (down e * down e) (n * up d * (n * up d)) (down d * down d) (mul_pos (down_pos e) (down_pos e)) (mul_pos (down_pos d) (down_pos d))
+    round_mono binary64 (m * up e * (m * up e)) (down e * down e) (n * up d * (n * up d)) (down d * down d) (mul-pos (down_pos e) (down_pos e)) (mul-pos (down_pos d) (down_pos d))
     (cross (m * up e) (down e) (n * up d) (down d) (le_says m e n d h))
   where
     cross : (a u b w : ℕ) → a * w ≤ b * u → a * a * (w * w) ≤ b * b * (u * u)
@@ -153,5 +153,5 @@ square_at a s n c C h = square_abs a ∙ at a h
     at nan h = absurd h
     at (inf t) h = absurd h
     at (fin t m e) h =
-        round_same binary64 false (m * up e * (m * up e)) (down e * down e) (n * n) (c * c) (mul_pos (down_pos e) (down_pos e)) (mul_pos C C)
+        round_same binary64 false (m * up e * (m * up e)) (down e * down e) (n * n) (c * c) (mul-pos (down_pos e) (down_pos e)) (mul-pos C C)
         (mul-mul-mul_comm (m * up e) (m * up e) c c ∙ ap (λ (z : ℕ). z * z) h.1 ∙ mul-mul-mul_comm n (down e) n (down e))

@@ -1,5 +1,5 @@
 -- The laws of one rounding: where it is exact, that it keeps the order, and how large its error is. Assumes nothing.
-use Rattle.std.proofs.Common.{◌≡◌, ℕ, zero, suc, ◌+◌, ◌-◌, ◌*◌, ◌/◌, ◌^◌, ◌<◌, ◌≤◌, Bool, true, false, cond, not, T, eqb, ltb, ◌⊎◌, [], ◌∷◌, ℤ, pos, ◌+ℤ◌, ◌-ℤ◌, ◌*ℤ◌, neg_ℤ, nat_abs, sym, refl, ap, ◌∙◌, subst, ap₂, inl, inr, ⊎_elim, zero_le, le_trans, le_of_eq, lt_of_lt_of_le, lt_of_le_of_lt, lt_irrefl, mul-le-mul_right, mul_assoc, mul_comm, eq-zero-or-pos, eq-or-lt_of_le, mul_pos, one-mul, lt_of_not-le, mul-one, div-mul-le_self, arith, lit<, lit≤, pow_pos, pow_mono, pow-add, shl_lt}
+use Rattle.std.proofs.Common.{◌≡◌, ℕ, zero, suc, ◌+◌, ◌-◌, ◌*◌, ◌/◌, ◌^◌, ◌<◌, ◌≤◌, Bool, true, false, cond, not, T, eqb, ltb, ◌⊎◌, [], ◌∷◌, ℤ, pos, ◌+ℤ◌, ◌-ℤ◌, ◌*ℤ◌, neg_ℤ, nat_abs, sym, refl, ap, ◌∙◌, subst, ap₂, inl, inr, ⊎_elim, zero-le, le_trans, le_of_eq, lt_of_lt_of_le, lt_of_le_of_lt, lt_irrefl, mul-le-mul_right, mul_assoc, mul_comm, eq-zero-or-pos, eq-or-lt_of_le, mul-pos, one-mul, lt_of_not-le, mul-one, div-mul-le_self, arith, lit<, lit≤, pow_pos, pow_mono, pow-add, shl_lt}
 use mathlib.Core.Bool.{beq}
 use native.Mathlib.Nat.{pow-succ'}
 use native.Mathlib.Decide.{dec_le}
@@ -26,7 +26,7 @@ use Rattle.number.proofs.Compare.{HasSign, le_is, le_of_signs, le_neg}
 
 -- 2 ^ 53 itself has 54 digits, and is 1 * 2 ^ 53
 digits : (a : ℕ) → a ≤ 2 ^ 53 → (q : ℕ) × (j : ℕ) × (q < 2 ^ 53) × (j ≤ 53) × (a ≡ q * 2 ^ j)
-digits a h = ⊎_elim (λ (e : a ≡ 2 ^ 53). (1, 53, lit< tt, lit≤ tt, e ∙ sym (one-mul (2 ^ 53)))) (λ (l : a < 2 ^ 53). (a, 0, l, zero_le, sym (mul-one a))) (eq-or-lt_of_le h)
+digits a h = ⊎_elim (λ (e : a ≡ 2 ^ 53). (1, 53, lit< tt, lit≤ tt, e ∙ sym (one-mul (2 ^ 53)))) (λ (l : a < 2 ^ 53). (a, 0, l, zero-le, sym (mul-one a))) (eq-or-lt_of_le h)
 
 pub round_is_exact : (s : Bool) (a k : ℕ) → k ≤ 1074 → a ≤ 2 ^ 53 → HasValue (round binary64 s a (2 ^ k)) s a (2 ^ k)
 round_is_exact s a k K A = go (digits a A)
@@ -111,7 +111,7 @@ unfolding round
 round_zero s c C = round_same binary64 s 0 c 0 1 C (lit< tt) (omega arith)
 
 factor_zero : (m n : ℕ) → 0 < n → m * n ≤ 0 → m ≡ 0
-factor_zero m n N h = ⊎_elim (λ e. e) (λ (M : 0 < m). absurd (lt_irrefl 0 (le_trans (mul_pos M N) h))) (eq-zero-or-pos m)
+factor_zero m n N h = ⊎_elim (λ e. e) (λ (M : 0 < m). absurd (lt_irrefl 0 (le_trans (mul-pos M N) h))) (eq-zero-or-pos m)
 
 -- Two fractions that are not negative are lib.Ieee's case, and two that are not positive are its opposite. A negative one is below any other by its sign.
 -- And one that is not negative is at most one that is not positive only where both are 0.
@@ -243,7 +243,7 @@ multiple_near q p c n h = let ρ = pos q ∷ pos p ∷ pos c ∷ pos n ∷ [] in
 
 -- a / c rounded, in units, is lib.Ieee's `grid`
 grid_rounded : (a c : ℕ) → 0 < c → Rounded (pos (grid binary64 a c)) (pos (a * 2 ^ 1074)) (pos c)
-grid_rounded a c C = record { k = k; near = multiple_near (kept 53 n c) (2 ^ k) c n (closest_near n (c * 2 ^ k) (mul_pos C (pow_pos k))); size = ⊎_elim inl (λ l. inr (pos_le (full l))) (dropped (size (n / c))) }
+grid_rounded a c C = record { k = k; near = multiple_near (kept 53 n c) (2 ^ k) c n (closest_near n (c * 2 ^ k) (mul-pos C (pow_pos k))); size = ⊎_elim inl (λ l. inr (pos_le (full l))) (dropped (size (n / c))) }
   where
     n : ℕ
     n = a * 2 ^ 1074

@@ -1,5 +1,5 @@
 -- Laws of `sqrt_of`: it keeps the order, and has no minus sign where its argument has none. Assumes nothing.
-use Rattle.std.proofs.Common.{◌≡◌, ℕ, zero, suc, ◌+◌, ◌*◌, ◌/◌, ◌^◌, ◌≤◌, Bool, true, false, cond, ◌&&◌, ◌||◌, T, eqb, ltb, ℤ, pos, sym, refl, subst, subst₂, le_trans, lt_of_lt_of_le, mul-le-mul_right, zero-lt-suc, mul_pos, arith, eqb→eq, lt→ltb, pow_pos, ltb-true}
+use Rattle.std.proofs.Common.{◌≡◌, ℕ, zero, suc, ◌+◌, ◌*◌, ◌/◌, ◌^◌, ◌≤◌, Bool, true, false, cond, ◌&&◌, ◌||◌, T, eqb, ltb, ℤ, pos, sym, refl, subst, subst₂, le_trans, lt_of_lt_of_le, mul-le-mul_right, zero-lt-suc, mul-pos, arith, eqb→eq, lt→ltb, pow_pos, ltb-true}
 use lib.Ieee.{Float, nan, inf, fin, binary64, up, down, le}
 use lib.Ieee.Fits.{down_pos, up_pos, and_i, and_l, and_r, eq→eqb}
 use lib.Ieee.Nearest.{div_mono}
@@ -43,7 +43,7 @@ unfolding sqrt_of le
 sqrt_mono p plus_inf h = le_inf (sqrt_plus p)
 sqrt_mono plus_inf (plus_fin n d) h = absurd h
 sqrt_mono (plus_fin zero e) (plus_fin n d) h = zero_le e (sqrt_plus (plus_fin n d))
-sqrt_mono (plus_fin (suc m) e) (plus_fin zero d) h = absurd (omega (arith, le_says (suc m) e 0 d h, mul_pos (mul_pos (zero-lt-suc m) (up_pos e)) (down_pos d)))
+sqrt_mono (plus_fin (suc m) e) (plus_fin zero d) h = absurd (omega (arith, le_says (suc m) e 0 d h, mul-pos (mul-pos (zero-lt-suc m) (up_pos e)) (down_pos d)))
 sqrt_mono (plus_fin (suc m) e) (plus_fin (suc n) d) h =
     subst₂ (λ (v w : Float). T (le v w)) (sym (sqrt_above_zero m e)) (sym (sqrt_above_zero n d))
     (root_mono (suc m * up e * 2 ^ 1200 / down e) (suc n * up d * 2 ^ 1200 / down d)
@@ -66,7 +66,7 @@ at_least_zero (fin false m e) t = plus (plus_fin m e)
 at_least_zero (fin true zero e) t = minus_zero e
 at_least_zero (fin true (suc m) e) t =
     let q : 0 * 1 * down e ≡ suc m * up e * 1 = eqb→eq (0 * 1 * down e) (suc m * up e * 1) (and_l (eqb (0 * 1 * down e) (suc m * up e * 1)) (eqb (0 * 1 * down e) 0) t) in
-    absurd (omega (arith, mul_pos (zero-lt-suc m) (up_pos e)))
+    absurd (omega (arith, mul-pos (zero-lt-suc m) (up_pos e)))
 
 minus_zero_le : (e : ℤ) {x : Float} → Plus x → T (le (fin true 0 e) x)
 unfolding le
@@ -90,7 +90,7 @@ sqrt_mono_all x y a b h = go (at_least_zero x a) (at_least_zero y b) h
     go (plus (plus_fin (suc m) e)) (minus_zero d) h =
         let a = suc m * up e * down d in
         let z : a ≡ 0 = eqb→eq a 0 (and_r (eqb a (0 * up d * down e)) (eqb a 0) h) in
-        absurd (omega (arith, mul_pos (mul_pos (zero-lt-suc m) (up_pos e)) (down_pos d)))
+        absurd (omega (arith, mul-pos (mul-pos (zero-lt-suc m) (up_pos e)) (down_pos d)))
 
 pub sqrt_nonneg : (x : Float) → T (le zeroᶠ x) → T (le zeroᶠ (sqrt_of x))
 unfolding sqrt_of

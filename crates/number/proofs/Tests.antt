@@ -1,5 +1,5 @@
 -- What a test of a float says of it. Assumes nothing.
-use Rattle.std.proofs.Common.{◌≡◌, ℕ, zero, suc, ◌-◌, ◌*◌, ◌%◌, ◌^◌, ◌≤◌, Bool, true, false, not, T, ltb, ℤ, sym, refl, ap, ◌∙◌, subst, le_trans, zero-lt-suc, mul_pos, arith, ltb-false, lt-ltb, eq-eqb, ne_eqb}
+use Rattle.std.proofs.Common.{◌≡◌, ℕ, zero, suc, ◌-◌, ◌*◌, ◌%◌, ◌^◌, ◌≤◌, Bool, true, false, not, T, ltb, ℤ, sym, refl, ap, ◌∙◌, subst, le_trans, zero-lt-suc, mul-pos, arith, ltb-false, lt-ltb, eq-eqb, ne_eqb}
 use native.Mathlib.Nat.{mod-le}
 use lib.Arith.{le→nltb}
 use lib.Ieee.{Float, nan, inf, fin, binary64, up, down, fits, to_bits, is_nan, nan_bits, le, lt, eq}
@@ -50,11 +50,11 @@ is_zero false e = rw (eq-eqb (0 * up e * 1) (0 * 1 * down e) (omega arith))
 
 pub not_zero : (s : Bool) (m : ℕ) (e : ℤ) → eq (fin s (suc m) e) zeroᶠ ≡ false
 unfolding eq
-not_zero s m e = rw (ne_eqb (suc m * up e * 1) (0 * 1 * down e) (λ z. omega (arith, mul_pos (zero-lt-suc m) (up_pos e))))
+not_zero s m e = rw (ne_eqb (suc m * up e * 1) (0 * 1 * down e) (λ z. omega (arith, mul-pos (zero-lt-suc m) (up_pos e))))
 
 pub above_zero : (m : ℕ) (e : ℤ) → lt zeroᶠ (fin false (suc m) e) ≡ true
 unfolding lt
-above_zero m e = lt-ltb (0 * 1 * down e) (suc m * up e * 1) (omega (arith, mul_pos (zero-lt-suc m) (up_pos e)))
+above_zero m e = lt-ltb (0 * 1 * down e) (suc m * up e * 1) (omega (arith, mul-pos (zero-lt-suc m) (up_pos e)))
 
 pub above_not_zero : (x : Float) → T (above x) → eq x zeroᶠ ≡ false
 unfolding eq

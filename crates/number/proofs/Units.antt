@@ -1,5 +1,5 @@
 -- A float's bits from its value, and where `round` goes to. Assumes nothing.
-use Rattle.std.proofs.Common.{◌≡◌, ℕ, zero, suc, ◌+◌, ◌-◌, ◌*◌, ◌/◌, ◌%◌, ◌^◌, ◌<◌, ◌≤◌, Bool, false, cond, not, T, sym, refl, ap, ◌∙◌, subst, lt_of_lt_of_le, lt_of_le_of_lt, mul-le-mul_right, mod-lt, zero-lt-suc, div-lt_iff_lt-mul, le_antisymm, lt_of_mul-lt-mul_right, mul-lt-mul_of_pos_right, mul_pos, div-add-mod', le-div_iff_mul-le, zero-add, mul_right_comm, le_of_mul-le-mul_right, mul-div_cancel, arith, eqb→eq, leb→le, pow_pos, pow_mono, pow-add, shl_lt}
+use Rattle.std.proofs.Common.{◌≡◌, ℕ, zero, suc, ◌+◌, ◌-◌, ◌*◌, ◌/◌, ◌%◌, ◌^◌, ◌<◌, ◌≤◌, Bool, false, cond, not, T, sym, refl, ap, ◌∙◌, subst, lt_of_lt_of_le, lt_of_le_of_lt, mul-le-mul_right, mod-lt, zero-lt-suc, div-lt_iff_lt-mul, le_antisymm, lt_of_mul-lt-mul_right, mul-lt-mul_of_pos_right, mul-pos, div-add-mod', le-div_iff_mul-le, zero-add, mul_right_comm, le_of_mul-le-mul_right, mul-div_cancel, arith, eqb→eq, leb→le, pow_pos, pow_mono, pow-add, shl_lt}
 use Prim.Native.Nat.{compare, Ordering}
 use native.Mathlib.Omega.{by_contra}
 use lib.Dec.{is_le, compare_is_eq, nleb→lt}
@@ -96,19 +96,19 @@ round_at s num den d a E P Q same lo hi =
     let z : size w - 53 ≡ d = dropped d w ((le-div_iff_mul-le P).1 (rw (pow-add 2 52 d) (low_end n (2 ^ d) same))) ((div-lt_iff_lt-mul P).1 (rw (pow-add 2 53 d) (high_end n (2 ^ d) (pow_pos d) same))) in
     round_is binary64 s num den
     ∙ ap (core binary64 s n den) z
-    ∙ ap (λ (q : ℕ). units binary64 s q d) (closest_same n (den * 2 ^ d) a E (mul_pos P (pow_pos d)) Q same)
+    ∙ ap (λ (q : ℕ). units binary64 s q d) (closest_same n (den * 2 ^ d) a E (mul-pos P (pow_pos d)) Q same)
   where
     low_end : (n D : ℕ) → n * E ≡ a * (den * D) → 2 ^ 52 * D * den ≤ n
     low_end n D e = le_of_mul-le-mul_right (omega (arith, mul-le-mul_right (den * D) lo)) Q
 
     high_end : (n D : ℕ) → 0 < D → n * E ≡ a * (den * D) → n < 2 ^ 53 * D * den
-    high_end n D p e = lt_of_mul-lt-mul_right E (omega (arith, mul-lt-mul_of_pos_right hi (mul_pos P p)))
+    high_end n D p e = lt_of_mul-lt-mul_right E (omega (arith, mul-lt-mul_of_pos_right hi (mul-pos P p)))
 
 -- a fraction R / 2 ^ 601 of 54 + j digits that lies less than half a unit from q units of 2 ^ (j - 600)
 pub round_near : (R q j : ℕ) → 2 ^ 53 * 2 ^ j ≤ R → R < 2 ^ 54 * 2 ^ j → q * (2 * 2 ^ j) < R + 2 ^ j → R < q * (2 * 2 ^ j) + 2 ^ j
     → round binary64 false R (2 ^ 601) ≡ units binary64 false q (j + 474)
 round_near R q j lo hi a b =
-    round_at false R (2 ^ 601) (j + 474) R (2 * 2 ^ j) (pow_pos 601) (mul_pos (zero-lt-suc 1) (pow_pos j)) scale (omega arith) (omega arith)
+    round_at false R (2 ^ 601) (j + 474) R (2 * 2 ^ j) (pow_pos 601) (mul-pos (zero-lt-suc 1) (pow_pos j)) scale (omega arith) (omega arith)
     ∙ ap (λ (w : ℕ). units binary64 false w (j + 474)) (closest_is R (2 ^ j) q a b)
   where
     regroup : (p a b c : ℕ) → c * 2 ≡ a * b → R * c * (2 * p) ≡ R * (a * (p * b))

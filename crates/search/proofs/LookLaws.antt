@@ -3,7 +3,7 @@ use mathlib.Core.Path.{◌≡◌, refl, sym, ap, ◌∙◌, subst}
 use mathlib.Core.Bool.{Bool, true, false, not, cond, ◌&&◌, ◌||◌}
 use mathlib.Core.List.{List}
 use Prim.Native.Nat.{ℕ, zero, suc, ◌+◌, ◌-◌, ◌≤◌, ◌<◌}
-use native.Mathlib.Nat.{add_zero, sub-zero}
+use native.Mathlib.Nat.{add-zero, sub-zero}
 use native.Mathlib.Omega.{arith}
 use lib.Dec.{T, ltb}
 use lib.ListN.{length}
@@ -112,7 +112,7 @@ module _ (D : ℕ → Float) (I : List ℕ) (first count : ℕ) where
 
   pub look_first : (b : Best) → fold step b (run (item_at I) (first + 0) (count - 0)) ≡ best_of D b (run (item_at I) first count)
   unfolding best_of
-  look_first b = rw (add_zero first, sub-zero count)
+  look_first b = rw (add-zero first, sub-zero count)
 
   module _ (i : ℕ) (b : Best) (x : Best) (inv : fold step b (run (item_at I) (first + i) (count - i)) ≡ x) where
     pub look_next : i < count → (k : ℕ) (r : Best) → k ≡ item_at I (first + i) → r ≡ improved b k (D k) → fold step r (run (item_at I) (first + (i + 1)) (count - (i + 1))) ≡ x

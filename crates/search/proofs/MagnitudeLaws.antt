@@ -4,7 +4,7 @@ use mathlib.Core.Bool.{Bool, true, false, cond, true≢false}
 use mathlib.Core.List.{[]}
 use Prim.Native.Nat.{ℕ, zero, suc, ◌+◌, ◌*◌, ◌^◌, ◌≤◌, ◌<◌}
 use native.Mathlib.Decide.{ℕ_discrete}
-use native.Mathlib.Nat.{zero-lt-suc, mul_pos}
+use native.Mathlib.Nat.{zero-lt-suc, mul-pos}
 use native.Mathlib.Omega.{arith}
 use borrow.Author.Tests.{eqb-true, eqb-false, ltb-false}
 use lib.Dec.{T, eqb}
@@ -64,7 +64,7 @@ not_above_zero plus_inf F h = absurd (true≢false h)
 not_above_zero (plus_fin zero e) F h = sym (plus_zero e F)
 not_above_zero (plus_fin (suc m) e) F h =
     let l = ltb-false (0 * 1 * down e) (suc m * up e * 1) h in
-    let q : 0 < suc m * up e = mul_pos (zero-lt-suc m) (up_pos e) in
+    let q : 0 < suc m * up e = mul-pos (zero-lt-suc m) (up_pos e) in
     absurd (omega arith)
 
 abs_flipped : {x : Float} → Plus x → (inside : Bool) → abs_of (flipped inside x) ≡ x

@@ -4,7 +4,7 @@ use mathlib.Core.Bool.{true, false, ◌||◌}
 use mathlib.Core.List.{List}
 use Prim.Native.Nat.{ℕ, ◌+◌, ◌-◌, ◌*◌, ◌≤◌, ◌<◌}
 use native.Mathlib.Omega.{arith}
-use borrow.Author.Tests.{ltb-false, not_false}
+use borrow.Author.Tests.{ltb-false, not-false}
 use lib.Dec.{ltb}
 use lib.ListN.{length, get_or, take, drop, get_or-append}
 use lib.Seq.{sets}
@@ -52,7 +52,7 @@ unfolding set_query_tested
 query_passed v cs p B e =
     let r = refusing_passed _ _ _ e in
     let q = refusing_passed _ _ _ r.0 in
-    record { ready = set_ready v cs B q.0 r.1; point = not_false (point_in_field p) q.1 }
+    record { ready = set_ready v cs B q.0 r.1; point = not-false (point_in_field p) q.1 }
 
 -- and a query of a set and a point that pass theirs passes them
 pub query_passes : (v : List Float) (cs : List ℕ) (p : Point) (B : IndexBuffer) → set_tested v cs ≡ Passed → point_in_field p ≡ true → short_buffer B ≡ false → set_query_tested v cs p B ≡ Passed

@@ -3,10 +3,10 @@ use mathlib.Core.Path.{◌≡◌, refl, sym, ap, subst, ◌∙◌}
 use mathlib.Core.Bool.{Bool, true, false, not}
 use mathlib.Core.List.{List, [], flat_map}
 use Prim.Native.Nat.{ℕ, zero, suc, ◌+◌, ◌-◌, ◌*◌, ◌%◌, ◌≤◌, ◌<◌}
-use native.Mathlib.Nat.{add_zero, add-suc}
+use native.Mathlib.Nat.{add-zero, add-suc}
 use native.Mathlib.Numerals.{add-one}
 use native.Mathlib.Omega.{arith}
-use borrow.Author.Tests.{ltb-true, ltb-false, eqb-true, eqb-false, le-ltb, eq-eqb, ne_eqb, not_false}
+use borrow.Author.Tests.{ltb-true, ltb-false, eqb-true, eqb-false, le-ltb, eq-eqb, ne_eqb, not-false}
 use lib.Dec.{T, eqb, ltb}
 use lib.ListN.{length, get_or, take, drop, length-take, length-drop, get_or-eq_default}
 use lib.Seq.{ext_get_or, get_or-take, get_or-drop}
@@ -40,7 +40,7 @@ module _ (cs : List ℕ) where
 
   pub start_up : (j k : ℕ) → start_of cs j ≤ start_of cs (j + k)
   unfolding start_of
-  start_up j zero = rw (add_zero j) (omega arith)
+  start_up j zero = rw (add-zero j) (omega arith)
   start_up j (suc k) = let h = start_up j k in rw (add-suc j k) (omega arith)
 
   -- an outline ends where all end, or before
@@ -131,7 +131,7 @@ lists_fit v cs e =
     record {
       size = ltb-false 1024 (length cs) size.0;
       even = even_of (length v) (eqb-false (length v % 2) 1 t1.1);
-      total = eqb-true (start_of cs (length cs)) (count v) (not_false (adds_up v cs) t2.1);
+      total = eqb-true (start_of cs (length cs)) (count v) (not-false (adds_up v cs) t2.1);
       few = ltb-false 65536 (count v) size.1;
       least = λ k l. ltb-false (get_or cs k 0) 3 (any_at_lem (λ n. ltb n 3) 0 cs k l t3.1);
       most = λ k l. ltb-false 4096 (get_or cs k 0) (any_at_lem (λ n. ltb 4096 n) 0 cs k l few.0);

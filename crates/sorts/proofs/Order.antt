@@ -2,7 +2,7 @@
 use mathlib.Core.Path.{◌≡◌, refl, sym, subst, ◌∙◌}
 use mathlib.Core.Bool.{Bool, true, false, not, ◌&&◌, ◌||◌, cond, false≢true, true≢false}
 use mathlib.Core.Logic.{◌⊎◌, inl, inr}
-use Prim.Native.Nat.{ℕ, ◌≤◌, ◌<◌, zero_le}
+use Prim.Native.Nat.{ℕ, ◌≤◌, ◌<◌, zero-le}
 use native.Mathlib.Omega.{arith}
 use lib.Dec.{T, leb}
 use lib.Ieee.{Float, nan, inf, fin, lt, eq, le, is_nan}
@@ -226,4 +226,4 @@ goes_plain v k x h e = rw (not_less (nan_or k)) (first (total_less v k))
 
     first : (b : Bool) → true ≡ cond b true (leb 0 x)
     first true = refl
-    first false = sym (le-leb 0 x zero_le)
+    first false = sym (le-leb 0 x zero-le)

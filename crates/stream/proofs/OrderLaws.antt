@@ -4,7 +4,7 @@ use mathlib.Core.Bool.{Bool, true, false, not, ◌&&◌, cond, true≢false}
 use mathlib.Core.List.{List}
 use Prim.Native.Nat.{ℕ, ◌+◌, ◌%◌}
 use native.Mathlib.Omega.{arith}
-use borrow.Author.Tests.{eq-eqb, eqb-true, not_false}
+use borrow.Author.Tests.{eq-eqb, eqb-true, not-false}
 use lib.Dec.{eqb}
 use lib.ListN.{take, drop, get_or}
 use lib.Seq.{get_or-drop}
@@ -43,14 +43,14 @@ pub xy_multiple : (t n : ℕ) → t ≡ XY → misfit t n ≡ false → n % 8 �
 unfolding misfit
 xy_multiple t n e q =
     let h = (or_none (eqb t UNITS && not (eqb (n + 4) 20)) (eqb t XY && not (eqb (n % 8) 0)) q).1 in
-    eqb-true (n % 8) 0 (not_false _ (rw (eq-eqb t XY e) at h))
+    eqb-true (n % 8) 0 (not-false _ (rw (eq-eqb t XY e) at h))
 
 pub units_sixteen : (t n : ℕ) → t ≡ UNITS → misfit t n ≡ false → n ≡ 16
 unfolding misfit
 units_sixteen t n e q =
     let h = (or_none (eqb t UNITS && not (eqb (n + 4) 20)) (eqb t XY && not (eqb (n % 8) 0)) q).0 in
     let k : not (eqb (n + 4) 20) ≡ false = rw (eq-eqb t UNITS e) at h in
-    let m = eqb-true (n + 4) 20 (not_false _ k) in
+    let m = eqb-true (n + 4) 20 (not-false _ k) in
     omega (arith, m)
 
 -- ---- the unit
@@ -58,7 +58,7 @@ pub unit_is : (t : ℕ) (d : List ℕ) → t ≡ UNITS → (eqb t UNITS && other
 unfolding other_unit
 unit_is t d e q =
     let h : not (same_bytes (take 8 d) right_unit) ≡ false = rw (eq-eqb t UNITS e) at q in
-    same_bytes_true (take 8 d) right_unit (not_false _ h)
+    same_bytes_true (take 8 d) right_unit (not-false _ h)
 
 pub unit_so : (d : List ℕ) → take 8 d ≡ right_unit → other_unit d ≡ false
 unfolding other_unit

@@ -1,6 +1,6 @@
 -- Signed numbers of four bytes: how large they are, as numbers of 64 bits, and where they stand. Assumes nothing.
 use mathlib.Core.Path.{◌≡◌, refl, sym, ap, ◌∙◌}
-use mathlib.Core.Bool.{Bool, true, false, not, ◌&&◌, ◌||◌, or_false, and_true, true≢false}
+use mathlib.Core.Bool.{Bool, true, false, not, ◌&&◌, ◌||◌, or-false, and-true, true≢false}
 use mathlib.Core.List.{List, [], ◌∷◌}
 use Prim.Native.Nat.{ℕ, zero, suc, ◌+◌, ◌-◌, ◌*◌, ◌%◌, ◌<◌, ◌≤◌}
 use native.Mathlib.Omega.{arith}
@@ -127,7 +127,7 @@ steps_placed s from n h =
 
 -- ---- beyond the reach
 pub far_is : (z : ℤ) → (lt_z (pos 1048576) z || lt_z z (negsuc 1048575)) ≡ far_step z
-far_is (pos n) = or_false (ltb 1048576 n)
+far_is (pos n) = or-false (ltb 1048576 n)
 far_is (negsuc n) = go (ltb 1048575 n) refl
   where
     go : (b : Bool) → ltb 1048575 n ≡ b → ltb 1048575 n ≡ ltb 1048576 (suc n)
@@ -140,7 +140,7 @@ unit_bytes b = eqb (b 0) 0x3E && (eqb (b 1) 0x40 && (eqb (b 2) 0 && (eqb (b 3) 0
 
 unit_bytes_lem : (x : List ℕ) → 8 ≤ length x → not (unit_bytes (λ i. get_or x i 0)) ≡ other_unit x
 unfolding other_unit same_bytes
-unit_bytes_lem (a ∷ b ∷ c ∷ d ∷ e ∷ f ∷ g ∷ h ∷ x) l = rw (and_true (eqb h 0))
+unit_bytes_lem (a ∷ b ∷ c ∷ d ∷ e ∷ f ∷ g ∷ h ∷ x) l = rw (and-true (eqb h 0))
 unit_bytes_lem [] l = absurd (omega (arith, l))
 unit_bytes_lem (a ∷ []) l = absurd (omega (arith, l))
 unit_bytes_lem (a ∷ b ∷ []) l = absurd (omega (arith, l))

@@ -3,7 +3,7 @@ use mathlib.Core.Path.{sym, ◌∙◌}
 use mathlib.Core.List.{List}
 use Prim.Native.Nat.{ℕ, ◌-◌}
 use native.Mathlib.Omega.{arith}
-use borrow.Author.Tests.{not_true, not_false}
+use borrow.Author.Tests.{not-true, not-false}
 use lib.ListN.{length}
 use Rattle.stream.proofs.OrderLaws.{size_at, type_at}
 use Rattle.gdsii.specs.Work.{AtRecord}
@@ -48,7 +48,7 @@ turn c =
     let e = c.before.before.before.before.before.before.before in
     record {
       stands = e.before.loop.invariant;
-      more = sym e.is-at-end.ensures ∙ not_true _ c.before.before.before.before.before.before.if1.true;
+      more = sym e.is-at-end.ensures ∙ not-true _ c.before.before.before.before.before.before.if1.true;
       here = here (recordAt c);
       asks = c.before.before.asked-after.ensures;
       gives = c.record-read.ensures.0;
@@ -67,7 +67,7 @@ same_length : tie.Need-same-length invariant-loop decreases-loop
 same_length c = search rules
 
 returns : tie.Need-returns invariant-loop decreases-loop
-returns c = none_refuses c.before.before.before.loop.invariant (sym c.before.before.is-at-end.ensures ∙ not_true _ c.before.if1.true) c.if2.true _
+returns c = none_refuses c.before.before.before.loop.invariant (sym c.before.before.is-at-end.ensures ∙ not-true _ c.before.if1.true) c.if2.true _
 
 pair-at-requires : tie.Need-pair-at-requires invariant-loop decreases-loop
 pair-at-requires c κs = search rules
@@ -115,7 +115,7 @@ same-length-3 : tie.Need-same-length-3 invariant-loop decreases-loop
 same-length-3 c = search rules
 
 returns-3 : tie.Need-returns-3 invariant-loop decreases-loop
-returns-3 c = all_read c.before.before.loop.invariant (sym c.before.is-at-end.ensures ∙ not_false _ c.if1.false)
+returns-3 c = all_read c.before.before.loop.invariant (sym c.before.is-at-end.ensures ∙ not-false _ c.if1.false)
 
 pub measure-spec : {M : Type 1} → statement M
 measure-spec =

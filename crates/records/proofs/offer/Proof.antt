@@ -2,7 +2,7 @@
 -- Assumes nothing.
 use mathlib.Core.Path.{◌≡◌, refl, sym, ap, subst, ◌∙◌}
 use Prim.Native.Nat.{ℕ, zero, suc, ◌<◌, ◌≤◌, ◌^◌, ◌*◌, ◌+◌}
-use native.Mathlib.Nat.{add_zero, zero-add, lt-suc_self}
+use native.Mathlib.Nat.{add-zero, zero-add, lt-suc_self}
 use native.Mathlib.Numerals.{add-one}
 use mathlib.Core.Bool.{Bool}
 use mathlib.Core.List.{[], ◌∷◌, List}
@@ -223,7 +223,7 @@ module _ {M : Type 1} {𝓤 : Ura M} (𝓛 : Logic 𝓤) (mem : Memory → SProp
     loops : Node → ent 𝓤 (⋆ 𝓛 (At 0 xs)) (Wp 𝓤 H C Λ En (loop code.Mir.turn-1) Left)
     loops d =
         via 𝓤 (Inv n)
-        (via 𝓤 (guard 𝓤 (Facts n 0 xs) (⋆ 𝓛 (At 0 xs))) (guard_i 𝓤 (Facts n 0 xs) (⋆ 𝓛 (At 0 xs)) (add_zero n, front_none list xs, refl))
+        (via 𝓤 (guard 𝓤 (Facts n 0 xs) (⋆ 𝓛 (At 0 xs))) (guard_i 𝓤 (Facts n 0 xs) (⋆ 𝓛 (At 0 xs)) (add-zero n, front_none list xs, refl))
         (via 𝓤 (ex 𝓤 (λ (ws : List Node). guard 𝓤 (Facts n 0 ws) (⋆ 𝓛 (At 0 ws)))) (ex_i 𝓤 (λ (ws : List Node). guard 𝓤 (Facts n 0 ws) (⋆ 𝓛 (At 0 ws))) xs)
         (ex_i 𝓤 (λ (j : ℕ). ex 𝓤 (λ (ws : List Node). guard 𝓤 (Facts n j ws) (⋆ 𝓛 (At j ws)))) 0)))
         (loop_rule 𝓤 H 𝓛.laws 𝓣 ◌<◌ lt-wf_rel.wf En code.Mir.turn-1 Left Inv (turns d) n)

@@ -1,7 +1,7 @@
 -- `clip::path::follow` meets its contract. Assumes nothing.
 use mathlib.Core.Path.{◌∙◌}
 use native.Mathlib.Omega.{arith}
-use borrow.Author.Tests.{not_true, not_false}
+use borrow.Author.Tests.{not-true, not-false}
 use Rattle.clip.specs.Passes.{followed}
 use Rattle.clip.proofs.LentLaws.{unchanged, then, one_le, path_kept}
 use borrow.Author.Rules.{rules}
@@ -10,7 +10,7 @@ use Rattle.clip.proofs.path.follow.Tie as tie
 
 returns : tie.Need-returns
 unfolding followed
-returns c = (search rules, unchanged _, λ t h. rw (not_true c.before.before.args.kept c.if1.true) h)
+returns c = (search rules, unchanged _, λ t h. rw (not-true c.before.before.args.kept c.if1.true) h)
 
 line-requires : tie.Need-line-requires
 line-requires c κs = search rules
@@ -40,7 +40,7 @@ returns-2 c =
     let c8 = c7.before in
     let c9 = c8.before in
     let c14 = c9.before.before.before.before.before in
-    (omega (arith, c3.emit2.ensures.0, c7.emit.ensures.0, one_le c8.joins.result), then c7.emit.ensures.1 c3.emit2.ensures.1, λ t h. rw (not_false c14.args.kept c9.before.before.before.if1.false) (path_kept h c14.args.e c.moved.result c8.joins.result c9.line.result c3.emit2.result c.moved.ensures c8.joins.ensures c9.line.ensures (c3.emit2.ensures.2 _ (c7.emit.ensures.2 t.out h.held))))
+    (omega (arith, c3.emit2.ensures.0, c7.emit.ensures.0, one_le c8.joins.result), then c7.emit.ensures.1 c3.emit2.ensures.1, λ t h. rw (not-false c14.args.kept c9.before.before.before.if1.false) (path_kept h c14.args.e c.moved.result c8.joins.result c9.line.result c3.emit2.result c.moved.ensures c8.joins.ensures c9.line.ensures (c3.emit2.ensures.2 _ (c7.emit.ensures.2 t.out h.held))))
 
 pub follow-spec : {M : Type 1} → statement M
 follow-spec =

@@ -2,7 +2,7 @@
 use mathlib.Core.Path.{◌≡◌}
 use mathlib.Core.Bool.{true, false}
 use native.Mathlib.Omega.{arith}
-use borrow.Author.Tests.{not_true, not_false}
+use borrow.Author.Tests.{not-true, not-false}
 use Rattle.boundary.specs.declared.Edge.{Edge}
 use Rattle.clip.specs.declared.HalfPlane.{HalfPlane}
 use Rattle.clip.specs.declared.Marks.{Marks}
@@ -35,7 +35,7 @@ returns c =
     let c2 = c.before.before in
     let m = c2.before.before.before.before.marked in
     let a = c2.before.before.before.before.before.before.args in
-    (omega (arith, c2.follow.ensures.0), c2.follow.ensures.1, λ t h. rw (uncut-step a.side t a.e m.result m.ensures (not_true _ c2.before.before.if1.true)) (c2.follow.ensures.2 t h))
+    (omega (arith, c2.follow.ensures.0), c2.follow.ensures.1, λ t h. rw (uncut-step a.side t a.e m.result m.ensures (not-true _ c2.before.before.if1.true)) (c2.follow.ensures.2 t h))
 
 first-requires : tie.Need-first-requires
 first-requires c κs = search rules
@@ -61,7 +61,7 @@ returns-2 c =
     let c7 = c2.before.before.before.before.before in
     let m = c7.before.before.before.before.before.marked in
     let a = c7.before.before.before.before.before.before.before.args in
-    (omega (arith, c2.follow3.ensures.0, c7.follow2.ensures.0), then c7.follow2.ensures.1 c2.follow3.ensures.1, λ t h. rw (cut_step a.side t a.e m.result m.ensures (not_false _ c7.before.before.before.if1.false), ← c2.before.second.ensures, ← c7.before.first.ensures) (c2.follow3.ensures.2 _ (c7.follow2.ensures.2 t h)))
+    (omega (arith, c2.follow3.ensures.0, c7.follow2.ensures.0), then c7.follow2.ensures.1 c2.follow3.ensures.1, λ t h. rw (cut_step a.side t a.e m.result m.ensures (not-false _ c7.before.before.before.if1.false), ← c2.before.second.ensures, ← c7.before.first.ensures) (c2.follow3.ensures.2 _ (c7.follow2.ensures.2 t h)))
 
 pub step_spec : {M : Type 1} → statement M
 step_spec =

@@ -1,7 +1,7 @@
 -- `clip::scan::first_pass` meets its contract: the lines so far do not come in, and the lines that are left give the start. Assumes nothing.
 use mathlib.Core.Path.{◌≡◌, sym, ◌∙◌}
 use Prim.Native.Nat.{◌+◌, ◌-◌, ◌≤◌}
-use native.Mathlib.Nat.{sub-zero, le_antisymm, zero-add, add_zero, le_refl}
+use native.Mathlib.Nat.{sub-zero, le_antisymm, zero-add, add-zero, le_refl}
 use native.Mathlib.Omega.{arith}
 use Rattle.clip.specs.Passes.{marks_of, start_line}
 use Rattle.clip.specs.Lent.{line_in, lines_from}
@@ -48,7 +48,7 @@ returns c =
     let c4 = c.before.before.before.before in
     let c7 = c4.before.before.before in
     let z = start_here c7.args.s (line_in c7.args.w.now c7.args.from) c4.loop.before c4.loop.i c7.args.n c.before.before.marks-at2.result c.before.before.before.loop-test.true c.before.before.marks-at2.ensures (sym c.before.comes-in.ensures ∙ c.if1.true) in
-    let j = sym (add_zero _) ∙ (rw z at c4.loop.invariant.1) in
+    let j = sym (add-zero _) ∙ (rw z at c4.loop.invariant.1) in
     (rw (c4.before.marks-at.ensures, j), c4.loop.invariant.0)
 
 add-i : tie.Need-overflow-add-i invariant-loop decreases-loop
@@ -66,7 +66,7 @@ returns-2 : tie.Need-returns-2 invariant-loop decreases-loop
 returns-2 c =
     let c4 = c.before.before.before.before in
     let z = start_past_all c4.args.s (line_in c4.args.w.now c4.args.from) c.before.loop.before c.before.loop.i c4.args.n c.loop-test.false in
-    let j = sym (add_zero _) ∙ (rw (z, le_antisymm c.before.loop.invariant.0 c.loop-test.false) at c.before.loop.invariant.1) in
+    let j = sym (add-zero _) ∙ (rw (z, le_antisymm c.before.loop.invariant.0 c.loop-test.false) at c.before.loop.invariant.1) in
     (rw (c.before.before.marks-at.ensures, ← j), le_refl _)
 
 pub first-pass-spec : {M : Type 1} → statement M

@@ -3,7 +3,7 @@ use mathlib.Core.Path.{sym}
 use mathlib.Core.Bool.{true≢false}
 use Prim.Native.Nat.{ℕ, ◌-◌, ◌≤◌, ◌<◌}
 use native.Mathlib.Omega.{arith}
-use borrow.Author.Tests.{not_false}
+use borrow.Author.Tests.{not-false}
 use Rattle.lists.proofs.RunLaws.{one_more}
 use Rattle.boundary.specs.Boxes.{Inside}
 use Rattle.boundary.specs.Outline.{count, vertex_at}
@@ -39,7 +39,7 @@ loop-again : tie.Need-loop-preserved invariant-loop decreases-loop
 loop-again c =
     let l = c.before.before.before.loop in
     let a = c.before.before.before.before.before.before.args in
-    (search rules, one_more (λ k. Inside (vertex_at a.v.now k) a.c) l.i l.invariant.1 (c.before.vertex-within.ensures (not_false _ c.if1.false)))
+    (search rules, one_more (λ k. Inside (vertex_at a.v.now k) a.c) l.i l.invariant.1 (c.before.vertex-within.ensures (not-false _ c.if1.false)))
 
 returns-2 : tie.Need-returns-2 invariant-loop decreases-loop
 returns-2 c = let l = c.before.loop in λ e i h. l.invariant.1 i (omega (arith, h, c.loop-test.false))

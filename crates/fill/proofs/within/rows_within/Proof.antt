@@ -1,7 +1,7 @@
 -- `fill::within::rows_within` meets its contract: the rows so far are in the cell. Assumes nothing.
 use Prim.Native.Nat.{ℕ, ◌-◌, ◌≤◌, ◌<◌}
 use native.Mathlib.Omega.{arith}
-use borrow.Author.Tests.{not_false}
+use borrow.Author.Tests.{not-false}
 use Rattle.boundary.specs.Boxes.{Inside}
 use Rattle.boundary.specs.Outline.{count, vertex_at}
 use Rattle.fill.proofs.WithinLaws.{eight_more}
@@ -37,7 +37,7 @@ loop-again : tie.Need-loop-preserved invariant-loop decreases-loop
 loop-again c =
     let l = c.before.before.before.loop in
     let a = c.before.before.before.before.before.args in
-    (omega (arith, c.before.before.loop-test.true, l.invariant.0), eight_more (λ k. Inside (vertex_at a.v.now k) a.c) l.i l.invariant.1 (c.before.row_within.ensures (not_false _ c.if1.false)))
+    (omega (arith, c.before.before.loop-test.true, l.invariant.0), eight_more (λ k. Inside (vertex_at a.v.now k) a.c) l.i l.invariant.1 (c.before.row_within.ensures (not-false _ c.if1.false)))
 
 returns-2 : tie.Need-returns-2 invariant-loop decreases-loop
 returns-2 c = c.before.loop.invariant

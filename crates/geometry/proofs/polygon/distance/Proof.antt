@@ -1,7 +1,7 @@
 -- `geometry::polygon::distance` meets its contract. Assumes nothing.
 use mathlib.Core.Path.{sym, ◌∙◌}
 use borrow.Author.Rules.{rules}
-use borrow.Author.Tests.{not_false}
+use borrow.Author.Tests.{not-false}
 use Rattle.accept.specs.Refusals.{given}
 use Rattle.geometry.specs.Answers.{query_tested, distance_answer}
 use Rattle.accept.proofs.TestLaws.{accepted_field, refusing_passed}
@@ -25,7 +25,7 @@ nearest-edge-requires c κs =
     let d = c.before.before in
     let q = refusing_passed _ _ _ (sym d.refusing.ensures ∙ c.enum_told.given.1) in
     let v = accepted_field _ (sym d.before.outline-tested.ensures ∙ q.0) in
-    (v.0, sym d.before.before.point-in-field.ensures ∙ not_false _ q.1, v.1)
+    (v.0, sym d.before.before.point-in-field.ensures ∙ not-false _ q.1, v.1)
 
 holds-requires : tie.Need-holds-requires
 holds-requires c κs = search rules

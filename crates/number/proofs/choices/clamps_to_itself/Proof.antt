@@ -1,5 +1,5 @@
 -- `number::choices::clamps_to_itself` meets its contract. Assumes nothing.
-use borrow.Author.Tests.{not_true, not_false}
+use borrow.Author.Tests.{not-true, not-false}
 use lib.Ieee.{lt, of_bits}
 use Rattle.number.specs.Exact.{zeroᶠ}
 use Rattle.number.proofs.ChoiceLaws.{below_clamps, between_clamps}
@@ -10,7 +10,7 @@ returns : tie.Need-returns
 unfolding of_bits
 returns c =
     let t = c.args.t in
-    (λ e. between_clamps t c.requires (not_true (lt t zeroᶠ) e), λ e. below_clamps t (not_false (lt t zeroᶠ) e))
+    (λ e. between_clamps t c.requires (not-true (lt t zeroᶠ) e), λ e. below_clamps t (not-false (lt t zeroᶠ) e))
 
 pub clamps-to-itself-spec : {M : Type 1} → statement M
 clamps-to-itself-spec = tie.close (tie.spec returns)
