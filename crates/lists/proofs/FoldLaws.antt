@@ -65,6 +65,7 @@ module _ {A : Type 0} (p : A → Bool) where
 
   fold_at : (d : A) (b : Bool) (xs : List A) (i : ℕ) → i < length xs → fold (λ c x. c || p x) b xs ≡ false → p (get_or xs i d) ≡ false
   unfolding fold
+  fold_at d b [] i l e = elim l [ ]
   fold_at d b (x ∷ xs) zero l e = (or_none b (p x) (fold_first (b || p x) xs e)).1
   fold_at d b (x ∷ xs) (suc i) l e = fold_at d (b || p x) xs i (omega arith) e
 

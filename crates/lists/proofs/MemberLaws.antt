@@ -18,12 +18,12 @@ module _ {A B : Type 0} {R : A → B → Type 0} where
   pub take_each : {xs : List A} {ys : List B} (n : ℕ) → Each R xs ys → Each R (take n xs) (take n ys)
   take_each zero r = none
   take_each (suc n) none = none
-  take_each (suc n) (more h r) = more h (take_each n r)
+  take_each (suc n) (more {x = x} {y = y} {xs = xs} {ys = ys} h r) = more h (take_each {xs = xs} {ys = ys} n r)
 
   pub drop_each : {xs : List A} {ys : List B} (n : ℕ) → Each R xs ys → Each R (drop n xs) (drop n ys)
   drop_each zero r = r
   drop_each (suc n) none = none
-  drop_each (suc n) (more h r) = drop_each n r
+  drop_each (suc n) (more {x = x} {y = y} {xs = xs} {ys = ys} h r) = drop_each {xs = xs} {ys = ys} n r
 
   reverse_onto : {xs xs' : List A} {ys ys' : List B} → Each R xs ys → Each R xs' ys' → Each R (reverse_aux xs xs') (reverse_aux ys ys')
   reverse_onto none s = s

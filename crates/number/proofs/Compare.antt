@@ -106,6 +106,10 @@ pub compare_is : {k : ℕ} {x y : Float} {z w : ℤ} → Is k x z → Is k y w �
 compare_is {k} {x} {y} {z} {w} h g = at x y (is→equation h) (is→equation g)
   where
     at : (x y : Float) → Equation k x z → Equation k y w → (lt x y ≡ lt_z z w) × (eq x y ≡ eq_z z w) × (le x y ≡ le_z z w)
+    at nan _ h g = elim h [ ]
+    at (inf _) _ h g = elim h [ ]
+    at (fin s m d) nan h g = elim g [ ]
+    at (fin s m d) (inf _) h g = elim g [ ]
     at (fin s m d) (fin t n f) h g =
         let zw = cross s t m n d f k z w h g in
         let wz = cross t s n m f d k w z g h in (
@@ -139,6 +143,15 @@ HasSign (fin t m e) s = T (beq t s)
 
 pub le_of_signs : (x y : Float) → HasSign x true → HasSign y false → T (le x y)
 unfolding le lt eq
+le_of_signs nan y p q = elim p [ ]
+le_of_signs (inf false) y p q = elim p [ ]
+le_of_signs (inf true) nan p q = elim q [ ]
+le_of_signs (inf true) (inf true) p q = elim q [ ]
+le_of_signs (inf true) (fin true n f) p q = elim q [ ]
+le_of_signs (fin false m d) y p q = elim p [ ]
+le_of_signs (fin true m d) nan p q = elim q [ ]
+le_of_signs (fin true m d) (inf true) p q = elim q [ ]
+le_of_signs (fin true m d) (fin true n f) p q = elim q [ ]
 le_of_signs (inf true) (inf false) p q = tt
 le_of_signs (inf true) (fin false n f) p q = tt
 le_of_signs (fin true m d) (inf false) p q = tt

@@ -66,6 +66,8 @@ unfolding sqrt_of
 root_of_zero {k} {x} h = at x (is→equation h)
   where
     at : (x : Float) → Equation k x (pos 0) → sqrt_of x ≡ x
+    at lib.Ieee.nan h = elim h [ ]
+    at (lib.Ieee.inf _) h = elim h [ ]
     at (fin s m e) h =
         let none : m * up e * 2 ^ k ≡ 0 = (signed_cross s (m * up e) (down e) (2 ^ k) (pos 0) (down_pos e) h).0 ∙ zero-mul (down e) in
         let z : m ≡ 0 = ⊎_elim (λ z. z) (λ (M : 0 < m). absurd (lt_irrefl 0 (subst (λ (v : ℕ). 0 < v) none (mul-pos (mul-pos M (up_pos e)) (pow_pos k))))) (eq-zero-or-pos m) in

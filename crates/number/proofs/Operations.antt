@@ -40,6 +40,8 @@ pub is_unique : {k : ℕ} {x : Float} {z w : ℤ} → Is k x z → Is k x w → 
 is_unique {k} {x} {z} {w} h g = at x (is→equation h) (is→equation g)
   where
     at : (x : Float) → Equation k x z → Equation k x w → z ≡ w
+    at nan p q = elim p [ ]
+    at (inf _) p q = elim p [ ]
     at (fin s m e) p q = mul_cancel_eq (pos (down e)) z w (pos_lt (down_pos e)) (sym p ∙ q)
 
 -- z / 2 ^ k over a higher power of two
@@ -50,6 +52,8 @@ rescale {k} {x} {z} j h = equation→is x (at x (is→equation h))
     scale a p q z d e = eq_from (a ∷ p ∷ q ∷ z ∷ d ∷ []) (eq (ap (λ (t : ℤ). t *ℤ q) e) ∷ []) (search quote depth 30) (omega arith)
 
     at : (x : Float) → Equation k x z → Equation (k + j) x (z *ℤ pos (2 ^ j))
+    at nan p = elim p [ ]
+    at (inf _) p = elim p [ ]
     at (fin s m e) p = rw (pow-add 2 k j) (scale (signed s (m * up e)) (pos (2 ^ k)) (pos (2 ^ j)) z (pos (down e)) p)
 
 pub zero_is : (k : ℕ) → Is k zeroᶠ (pos 0)
@@ -63,6 +67,8 @@ neg_is {k} {x} {z} h = equation→is (neg x) (at x (is→equation h))
     minus a p z d e = eq_from (a ∷ p ∷ z ∷ d ∷ []) (eq e ∷ []) (search quote depth 30) (omega arith)
 
     at : (x : Float) → Equation k x z → Equation k (neg x) (neg_ℤ z)
+    at nan p = elim p [ ]
+    at (inf _) p = elim p [ ]
     at (fin s m e) p = rw (← neg_signed s (m * up e)) (minus (signed s (m * up e)) (pos (2 ^ k)) z (pos (down e)) p)
 
 -- ---- every finite `f64` is a whole number of 2 ^ -1074
@@ -144,6 +150,10 @@ add_rounds {k} {x} {y} {z} {w} h g = at x y (is→equation h) (is→equation g)
     over_one a b z w d f p h g = eq_from (a ∷ b ∷ z ∷ w ∷ d ∷ f ∷ p ∷ []) (eq (ap (λ (t : ℤ). t *ℤ f) h) ∷ eq (ap (λ (t : ℤ). t *ℤ d) g) ∷ []) (search quote depth 30) (omega arith)
 
     at : (x y : Float) → Equation k x z → Equation k y w → Rounds (add binary64 x y) (z +ℤ w) (2 ^ k)
+    at nan _ h g = elim h [ ]
+    at (inf _) _ h g = elim h [ ]
+    at (fin s m d) nan h g = elim g [ ]
+    at (fin s m d) (inf _) h g = elim g [ ]
     at (fin s m d) (fin t n f) h g =
         rounds_same (sum_rounds s t (m * up d * down f) (n * up f * down d) (down d * down f) (mul-pos (down_pos d) (down_pos f))) (pow_pos k)
         (ap (λ (v : ℤ). v *ℤ pos (2 ^ k)) (sym (ap₂ ◌+ℤ◌ (mul_signed_pos s (m * up d) (down f)) (mul_signed_pos t (n * up f) (down d))))
@@ -163,6 +173,10 @@ mul_rounds {j} {k} {x} {y} {z} {w} h g = at x y (is→equation h) (is→equation
     swap a b p q = ring (a ∷ b ∷ p ∷ q ∷ []) (search quote depth 30) tt
 
     at : (x y : Float) → Equation j x z → Equation k y w → Rounds (mul binary64 x y) (z *ℤ w) (2 ^ (j + k))
+    at nan _ h g = elim h [ ]
+    at (inf _) _ h g = elim h [ ]
+    at (fin s m d) nan h g = elim g [ ]
+    at (fin s m d) (inf _) h g = elim g [ ]
     at (fin s m d) (fin t n f) h g =
         let a = signed s (m * up d) in
         let b = signed t (n * up f) in
@@ -189,6 +203,10 @@ div_rounds {k} {x} {y} {z} t {b} h g B = at x y (is→equation h) (is→equation
         (search quote depth 30) (omega arith)
 
     at : (x y : Float) → Equation k x z → Equation k y (signed t b) → Rounds (div binary64 x y) (signed t 1 *ℤ z) b
+    at nan _ h g = elim h [ ]
+    at (inf _) _ h g = elim h [ ]
+    at (fin s m d) nan h g = elim g [ ]
+    at (fin s m d) (inf _) h g = elim g [ ]
     at (fin s m d) (fin r n f) h g =
         let size : n * up f * 2 ^ k ≡ b * down f = (signed_cross r (n * up f) (down f) (2 ^ k) (signed t b) (down_pos f) g).0 ∙ ap (λ (v : ℕ). v * down f) (nat_abs_signed t b) in
         let some : 0 < n * up f = first_pos (n * up f) (2 ^ k) (subst (λ (v : ℕ). 0 < v) (sym size) (mul-pos B (down_pos f))) in

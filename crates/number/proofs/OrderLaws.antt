@@ -208,6 +208,10 @@ lt_asym x y e = le_not_below y x (below_le x y e)
 -- between two finite floats there are only finite ones
 pub finite_between : (lo x hi : Float) → T (finite lo) → T (finite hi) → T (le lo x) → T (le x hi) → T (finite x)
 unfolding le lt eq
+finite_between lo (inf false) nan p q h k = elim q [ ]
+finite_between lo (inf false) (inf _) p q h k = elim q [ ]
+finite_between nan (inf true) hi p q h k = elim p [ ]
+finite_between (inf _) (inf true) hi p q h k = elim p [ ]
 finite_between lo nan hi p q h k = absurd k
 finite_between (fin s m d) (inf true) hi p q h k = absurd h
 finite_between lo (inf false) (fin s m d) p q h k = absurd k

@@ -42,6 +42,9 @@ plus_not_nan (plus_fin m e) = tt
 
 -- ---- rounding
 sign_plus : (x : Float) → HasSign x false → Plus x
+sign_plus nan h = elim h [ ]
+sign_plus (inf true) h = elim h [ ]
+sign_plus (fin true m e) h = elim h [ ]
 sign_plus (inf false) h = plus_inf
 sign_plus (fin false m e) h = plus_fin m e
 

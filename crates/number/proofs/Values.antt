@@ -78,6 +78,8 @@ pub is_rounds : {k : ℕ} {x : Float} {z : ℤ} → Is k x z → T (fits binary6
 is_rounds {k} {x} {z} h F = at x F (is→equation h)
   where
     at : (x : Float) → T (fits binary64 x) → Equation k x z → Rounds x z (2 ^ k)
+    at nan F p = elim p [ ]
+    at (inf _) F p = elim p [ ]
     at (fin s m e) F p = rounds_same (record { sign = s; mag = m * up e; den_pos = down_pos e; same = sym (round_fixed s m e F); val = refl }) (pow_pos k) p
 
 pub rounds_not_nan : {x : Float} {n : ℤ} {c : ℕ} → Rounds x n c → T (not (is_nan x))

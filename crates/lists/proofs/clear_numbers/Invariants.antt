@@ -1,0 +1,17 @@
+-- `lists::clear_numbers` meets its contract: the places so far hold zeros. Assumes nothing.
+use Prim.Native.Nat.{◌-◌}
+use borrow.Author.Rules.{rules}
+use mathlib.Core.Bool.{false}
+use lib.IntN.{pos}
+use lib.Ieee.{Float, fin, of_bits}
+use Rattle.lists.proofs.FrontLaws.{Clearing, clearing_none, clearing_more, clearing_all}
+use Rattle.lists.proofs.clear_numbers.Given as goal
+
+abbrev zeroᶠ : Float
+zeroᶠ = fin false 0 (pos 0)
+
+abbrev pub invariant-loop-i : goal.invariant-loop-i
+invariant-loop-i l = Clearing zeroᶠ l.initial.s l.n l.s l.i
+
+abbrev pub decreases-loop-i : goal.decreases-loop-i
+decreases-loop-i l = l.n - l.i

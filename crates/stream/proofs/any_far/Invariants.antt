@@ -1,0 +1,22 @@
+-- `stream::any_far` meets its contract: what was found so far and the numbers that are left give the answer. Assumes nothing.
+use mathlib.Core.Path.{◌≡◌, sym, ap, ◌∙◌}
+use mathlib.Core.Bool.{Bool, ◌||◌}
+use Prim.Native.Nat.{◌-◌, ◌≤◌}
+use native.Mathlib.Nat.{sub-zero}
+use borrow.Author.Rules.{rules}
+use lib.IntN.{ℤ}
+use Rattle.lists.specs.Lists.{run, fold, any}
+use Rattle.lists.proofs.FoldLaws.{fold_run_next, fold_run_end}
+use Rattle.stream.specs.Bytes.{step_at}
+use Rattle.stream.specs.Records.{far_step, any_far}
+use Rattle.stream.proofs.StepLaws.{small_same, steps_placed}
+use Rattle.stream.proofs.any_far.Given as goal
+
+abbrev found : Bool → ℤ → Bool
+found b z = b || far_step z
+
+abbrev pub invariant-loop-k : goal.invariant-loop-k
+invariant-loop-k l = (l.k ≤ l.n) × (fold found l.found (run (step_at l.s l.from) l.k (l.n - l.k)) ≡ any_far (run (step_at l.s l.from) 0 l.n))
+
+abbrev pub decreases-loop-k : goal.decreases-loop-k
+decreases-loop-k l = l.n - l.k
