@@ -5,7 +5,7 @@ pub mod refusals;
 use boundary::{Bounds, Distance};
 
 // Why a call is turned away. specs/Refusals.antt has the numbers.
-#[derive(Drop)]
+#[derive(Clone, Copy)]
 pub enum Refusal {
     OddCount,
     BadCounts,
@@ -28,14 +28,14 @@ pub enum Refusal {
 }
 
 // What the tests say.
-#[derive(Drop)]
+#[derive(Clone, Copy)]
 pub enum Test {
     Passed,
     Failed(Refusal),
 }
 
 // What they say of an outline, handed over with what was worked out: its area, or why it is turned away.
-#[derive(Drop)]
+#[derive(Clone, Copy)]
 pub enum Verdict {
     Area(f64),
     TurnedAway(Refusal),
@@ -43,7 +43,7 @@ pub enum Verdict {
 
 // What an operation answers: a count, flag or location, a measure, a box, or a distance with its normal
 // or its nearest point.
-#[derive(Drop)]
+#[derive(Clone, Copy)]
 pub enum Answer {
     Refused(Refusal),
     Count(u32),

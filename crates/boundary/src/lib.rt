@@ -13,21 +13,21 @@ ghost use Rattle.boundary.specs.Length.{edge_length, length_of};
 
 // A point, in µm.
 #[repr(C)]
-#[derive(Drop)]
+#[derive(Clone, Copy)]
 pub struct Point {
     pub x: f64,
     pub y: f64,
 }
 
 // The straight line from a to b.
-#[derive(Drop)]
+#[derive(Clone, Copy)]
 pub struct Edge {
     pub a: Point,
     pub b: Point,
 }
 
 // An axis-parallel box.
-#[derive(Drop)]
+#[derive(Clone, Copy)]
 pub struct Bounds {
     pub min: Point,
     pub max: Point,
@@ -35,7 +35,7 @@ pub struct Bounds {
 
 // The point of a boundary that is nearest to another: its distance, the point, and the boundary's own
 // normal there.
-#[derive(Drop)]
+#[derive(Clone, Copy)]
 pub struct Near {
     pub d: f64,
     pub q: Point,
@@ -43,7 +43,7 @@ pub struct Near {
 }
 
 // A distance, and what goes with it: the normal of a signed distance, the nearest point of an ellipse.
-#[derive(Drop)]
+#[derive(Clone, Copy)]
 pub struct Distance {
     pub d: f64,
     pub v: Point,

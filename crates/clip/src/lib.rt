@@ -8,7 +8,7 @@ pub mod scan;
 use boundary::Point;
 
 // The half-plane where the coordinate (y, or else x) is at least v (above) or at most v.
-#[derive(Drop)]
+#[derive(Clone, Copy)]
 pub struct HalfPlane {
     pub y: bool,
     pub above: bool,
@@ -16,7 +16,7 @@ pub struct HalfPlane {
 }
 
 // Whether a line is cut and where, and whether its first and its last part are inside.
-#[derive(Drop)]
+#[derive(Clone, Copy)]
 pub struct Marks {
     pub cut: bool,
     pub u: f64,
@@ -26,7 +26,7 @@ pub struct Marks {
 
 // What the first pass finds: whether the last part is kept, and how many lines stand before the first that
 // comes in.
-#[derive(Drop)]
+#[derive(Clone, Copy)]
 pub struct FirstPass {
     pub kept: bool,
     pub start: usize,
@@ -34,7 +34,7 @@ pub struct FirstPass {
 
 // A path: 0 where it has not begun and else 1, where it starts, and where it ends. (A bool here would
 // cost a stall at each line: the padding after it is copied.)
-#[derive(Drop)]
+#[derive(Clone, Copy)]
 pub struct PathEnds {
     pub begun: usize,
     pub start: Point,
@@ -42,14 +42,14 @@ pub struct PathEnds {
 }
 
 // A path, and how many lines it has.
-#[derive(Drop)]
+#[derive(Clone, Copy)]
 pub struct State {
     pub ends: PathEnds,
     pub at: usize,
 }
 
 // Where a list stands: in the second half or the first, and how many lines it has.
-#[derive(Drop)]
+#[derive(Clone, Copy)]
 pub struct Stored {
     pub second: bool,
     pub n: usize,

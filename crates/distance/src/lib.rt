@@ -9,7 +9,7 @@ use boundary::{Edge, Near, Point, line};
 
 // A line with its two ends, x then y, or a whole ellipse with its centre and the semi-axes a along x and
 // b along y.
-#[derive(Drop)]
+#[derive(Clone, Copy)]
 pub enum Piece {
     Line(f64, f64, f64, f64),
     Ellipse { c: Point, a: f64, b: f64 },
@@ -46,7 +46,7 @@ impl Piece {
 }
 
 // The curve G(s) = (n0/(s + r0))² + (z1/(s + 1))² - 1, whose root gives the nearest point of an ellipse.
-#[derive(Drop)]
+#[derive(Clone, Copy)]
 pub struct Curve {
     pub n0: f64,
     pub r0: f64,
@@ -55,7 +55,7 @@ pub struct Curve {
 
 // An edge's number, its point nearest to another, and the squared distance from which on an edge is clearly
 // farther.
-#[derive(Drop)]
+#[derive(Clone, Copy)]
 pub struct FoundEdge {
     pub i: usize,
     pub q: Point,

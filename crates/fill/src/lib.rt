@@ -12,14 +12,14 @@ use boundary::Bounds;
 
 // A line from a vertex to a later one: the number after the last edge that it stands for, and how many vertices
 // between its ends lie beyond the high bound.
-#[derive(Drop)]
+#[derive(Clone, Copy)]
 pub struct Chord {
     pub to: usize,
     pub beyond: usize,
 }
 
 // How many chords are written, and how many vertices they leave out beyond the high bound.
-#[derive(Drop)]
+#[derive(Clone, Copy)]
 pub struct Written {
     pub n: usize,
     pub beyond: usize,

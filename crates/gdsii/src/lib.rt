@@ -14,14 +14,14 @@ use stream::Awaited;
 use xy::Made;
 
 // How many outlines and vertices a set has.
-#[derive(Drop)]
+#[derive(Clone, Copy)]
 pub struct Size {
     pub outlines: u32,
     pub vertices: u32,
 }
 
 // What a stream is answered: why it is turned away, or the size of the set that it holds.
-#[derive(Drop)]
+#[derive(Clone, Copy)]
 pub enum Judged {
     Refused(Refusal),
     Found(Size),

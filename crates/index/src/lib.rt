@@ -18,7 +18,7 @@ pub struct BuildFields {
 }
 
 // What building answers: how many nodes and items there are.
-#[derive(Drop)]
+#[derive(Clone, Copy)]
 pub enum Built {
     Refused(Refusal),
     Sized(u32, u32),

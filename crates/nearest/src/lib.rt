@@ -27,7 +27,7 @@ pub struct NearestFields {
 }
 
 // What the query answers.
-#[derive(Drop)]
+#[derive(Clone, Copy)]
 pub enum Nearest {
     Refused(Refusal),
     None,

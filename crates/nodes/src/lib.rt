@@ -11,7 +11,7 @@ use boundary::Point;
 // A node: its box, and either its two children, the nodes first and first + 1 (count is 0), or a leaf's
 // items, count of them from first on.
 #[repr(C)]
-#[derive(Drop)]
+#[derive(Clone, Copy)]
 pub struct Node {
     pub lo: Point,
     pub hi: Point,

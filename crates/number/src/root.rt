@@ -19,7 +19,7 @@ const SLACK: f64 = 1.0000000000009095;
 const TINY: f64 = 1.1830521861667747e-271;
 
 // A number of up to 106 bits: hi * 2^52 + lo.
-#[derive(Drop)]
+#[derive(Clone, Copy)]
 struct Wide {
     hi: u64,
     lo: u64,

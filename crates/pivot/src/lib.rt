@@ -5,14 +5,14 @@ ghost use Rattle.std.specs.Prelude.{◌≤◌, length};
 use boundary::{greater_of, lesser_of};
 
 // A key, and a number: of the items with this key, those below the number go before the pivot.
-#[derive(Drop)]
+#[derive(Clone, Copy)]
 pub struct Pivot {
     pub key: f64,
     pub number: u32,
 }
 
 // A key, and how many of the items with this key go before the middle.
-#[derive(Drop)]
+#[derive(Clone, Copy)]
 struct Found {
     key: f64,
     ties: usize,
@@ -77,7 +77,7 @@ fn up_to(keys: &[f64], v: f64, part: &[u32], level: bool) -> usize {
 }
 
 // Four keys.
-#[derive(Drop)]
+#[derive(Clone, Copy)]
 struct FourKeys {
     a: f64,
     b: f64,
@@ -304,7 +304,7 @@ fn middle(keys: &[f64], l: f64, h: f64, list: &[u32], work: &mut [u32]) -> Found
 }
 
 // How many keys are below a range, and how many are in it.
-#[derive(Drop)]
+#[derive(Clone, Copy)]
 struct Bracket {
     below: usize,
     inside: usize,

@@ -13,7 +13,7 @@ use index::{building, refusals};
 use nodes::Node;
 
 // What the call returns, how many nodes there are, and the nodes, at the front of a list.
-#[derive(Drop)]
+#[derive(Clone, Copy)]
 pub struct Recording {
     pub number: u32,
     pub count: usize,

@@ -37,7 +37,7 @@ const NEAREST: u64 = 0x6e_6561_7265_7374;
 const NEAREST_MANY: u64 = 0x6573_745f_6d61_6e79;
 
 // Two floats and the reader past them.
-#[derive(Drop)]
+#[derive(Clone, Copy)]
 pub struct Pair {
     pub x: f64,
     pub y: f64,

@@ -10,7 +10,7 @@ pub struct Reader {
 }
 
 // A byte, or 256 at the end of the input, and the reader past it.
-#[derive(Drop)]
+#[derive(Clone, Copy)]
 pub struct Step {
     pub byte: u64,
     pub reader: Reader,
@@ -18,7 +18,7 @@ pub struct Step {
 
 // A run of bytes without spaces and line ends, read in two ways: as a name, its last eight bytes in
 // base 256, and as a number, its last sixteen digits in base 16. len is 0 at the end of the input.
-#[derive(Drop)]
+#[derive(Clone, Copy)]
 pub struct Token {
     pub len: u64,
     pub text: u64,
@@ -132,7 +132,7 @@ pub fn word(buf: &mut [u8], r: Reader) -> Token {
 }
 
 // How many members a list got, and the reader past them.
-#[derive(Drop)]
+#[derive(Clone, Copy)]
 pub struct Listed {
     pub count: usize,
     pub reader: Reader,

@@ -21,21 +21,21 @@ use number::root::hypot;
 use set::outlines::outline_at;
 
 // A node that waits, with its gap: its squared distance from the point.
-#[derive(Drop)]
+#[derive(Clone, Copy)]
 pub struct Entry {
     pub gap: f64,
     pub node: u32,
 }
 
 // An outline's number, and the magnitude of its distance.
-#[derive(Drop)]
+#[derive(Clone, Copy)]
 pub struct Best {
     pub outline: u32,
     pub distance: f64,
 }
 
 // The best so far, and a squared distance above which everything is farther.
-#[derive(Drop)]
+#[derive(Clone, Copy)]
 pub struct Kept {
     pub best: Best,
     pub far: f64,

@@ -4,7 +4,7 @@ ghost use Rattle.stream.specs.Bytes.{pair_at, step_at, steps_in};
 ghost use Rattle.stream.specs.Records.{asked_for, asked_after, at_end, astray, misfit, other_unit, far_step, any_far, SameStep};
 
 // The record that is asked for next.
-#[derive(Drop)]
+#[derive(Clone, Copy)]
 pub enum Awaited {
     Header,
     Bgnlib,

@@ -24,7 +24,7 @@ pub fn hull_of(wide: &[f64], list: &[u32]) -> Bounds
 }
 
 // The box around the items' boxes, and the box of their centres.
-#[derive(Drop)]
+#[derive(Clone, Copy)]
 pub struct Spans {
     pub hull: Bounds,
     pub spread: Bounds,

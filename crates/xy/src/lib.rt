@@ -17,14 +17,14 @@ use geometry::polygon;
 
 // What making finds of an outline: how many vertices it is made with, and whether its area is negative, so that
 // it is reversed.
-#[derive(Drop)]
+#[derive(Clone, Copy)]
 pub struct Makings {
     pub vertices: u32,
     pub reversed: bool,
 }
 
 // What the tests say of it: what making finds, or why it is turned away.
-#[derive(Drop)]
+#[derive(Clone, Copy)]
 pub enum Made {
     Whole(Makings),
     Unmade(Refusal),

@@ -1,0 +1,21 @@
+-- `boundary::length` meets its contract: the sum so far and the edges that are left give the length. Assumes nothing.
+use mathlib.Core.Path.{◌≡◌, sym, ◌∙◌}
+use Prim.Native.Nat.{◌≤◌, ◌-◌}
+use native.Mathlib.Nat.{sub-zero}
+use borrow.Author.Rules.{rules}
+use lib.Ieee.{Float, binary64, add, of_bits}
+use Rattle.boundary.specs.declared.Edge.{Edge}
+use Rattle.lists.specs.Lists.{run, fold, total}
+use Rattle.boundary.specs.Outline.{count, edge_at, edges}
+use Rattle.boundary.specs.Length.{edge_length, length_of}
+use Rattle.lists.proofs.FoldLaws.{fold_run_next, fold_run_end}
+use Rattle.boundary.proofs.length.Given as goal
+
+abbrev step : Float → Edge → Float
+step s e = add binary64 s (edge_length e)
+
+abbrev pub invariant-loop-i : goal.invariant-loop-i
+invariant-loop-i l = (l.i ≤ count l.v) × (fold step l.sum (run (edge_at l.v) l.i (count l.v - l.i)) ≡ length_of (edges l.v))
+
+abbrev pub decreases-loop-i : goal.decreases-loop-i
+decreases-loop-i l = count l.v - l.i
