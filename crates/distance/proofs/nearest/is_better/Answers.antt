@@ -9,26 +9,18 @@ use Rattle.boundary.specs.declared.Point.{Point}
 use Rattle.boundary.specs.Boxes.{PointOf}
 use Rattle.boundary.specs.Line.{less_point}
 use Rattle.distance.specs.Search.{length_to}
-use Rattle.distance.proofs.nearest.is_better.Statement.{statement}
-use Rattle.distance.proofs.nearest.is_better.Tie as tie
-
-either-requires : tie.Need-either-requires
-either-requires c κs = search rules
-
-either-requires-2 : tie.Need-either-requires-2
-either-requires-2 c κs = search rules
+use Rattle.distance.proofs.nearest.is_better.Goals as goal
 
 -- one of two points that are near
 near : (c : Bool) (p a b : Point) → PointOf Short (less_point p a) → PointOf Short (less_point p b) → PointOf Short (less_point p (cond c a b))
 near true p a b h g = h
 near false p a b h g = g
 
-is-nearer-requires : tie.Need-is-nearer-requires
-is-nearer-requires c κs =
-    let s = c.before.before in
-    let x = s.args in
+pub is_nearer-requires : goal.is_nearer-requires
+is_nearer-requires c =
+    let x = c.args in
     let first = ltb x.i x.j in
-    (rw c.before.either.ensures (near first x.p x.b x.a s.requires.1 s.requires.0), rw c.either2.ensures (near first x.p x.a x.b s.requires.0 s.requires.1))
+    (rw c.either.ensures (near first x.p x.b x.a c.requires.1 c.requires.0), rw c.either-2.ensures (near first x.p x.a x.b c.requires.0 c.requires.1))
 
 -- the points are exchanged and the answer turned where the edge stands first
 turned : (c : Bool) (p a b : Point) → unlike (lt (length_to p (cond c b a)) (length_to p (cond c a b))) c ≡ cond c (not (lt (length_to p b) (length_to p a))) (lt (length_to p a) (length_to p b))
@@ -43,10 +35,7 @@ turned false p a b = same (lt (length_to p a) (length_to p b))
     same true = refl
     same false = refl
 
-returns : tie.Need-returns
+pub returns : goal.returns
 returns c =
-    let x = c.before.before.before.args in
-    rw (c.is-nearer.ensures, c.before.either2.ensures, c.before.before.either.ensures) (turned (ltb x.i x.j) x.p x.a x.b)
-
-pub is-better-spec : {M : Type 1} → statement M
-is-better-spec = tie.close (tie.spec either-requires either-requires-2 is-nearer-requires returns)
+    let x = c.args in
+    rw (c.is_nearer.ensures, c.either-2.ensures, c.either.ensures) (turned (ltb x.i x.j) x.p x.a x.b)
