@@ -3,8 +3,10 @@
 // what the call has written.
 use crate::outlines::Pair;
 use sample::answers;
+use std::io;
+use std::io::Write;
 
-pub fn build(v: &[f64]) {
+pub fn build<W: Write>(to: &mut W, v: &[f64]) -> io::Result<()> {
     let mut corners = [1.0; 2044];
     let mut links = [1; 1022];
     let mut items = [1; 1024];
@@ -18,10 +20,10 @@ pub fn build(v: &[f64]) {
         &mut n,
         &mut k,
     );
-    answers::print_built(number, n, k, &corners, &links, &items);
+    answers::print_built(to, number, n, k, &corners, &links, &items)
 }
 
-pub fn meeting(v: &[f64], low: Pair, high: Pair) {
+pub fn meeting<W: Write>(to: &mut W, v: &[f64], low: Pair, high: Pair) -> io::Result<()> {
     let mut corners = [1.0; 2044];
     let mut links = [1; 1022];
     let mut items = [1; 1024];
@@ -39,5 +41,5 @@ pub fn meeting(v: &[f64], low: Pair, high: Pair) {
         &mut list,
         &mut count,
     );
-    answers::print_listed(number, count, &list);
+    answers::print_listed(to, number, count, &list)
 }

@@ -6,6 +6,8 @@ ghost use Rattle.std.specs.Prelude.{◌≤◌, length};
 use crate::{indexes, sets};
 use sample::read::Reader;
 use sample::{answers, floats, read};
+use std::io;
+use std::io::{Read, Write};
 
 // The operations' names in base 256, of a longer one the last eight bytes.
 const AREA: u64 = 0x6172_6561;
@@ -44,52 +46,51 @@ pub struct Pair {
     pub reader: Reader,
 }
 
-fn area(v: &[f64]) {
+fn area<W: Write>(to: &mut W, v: &[f64]) -> io::Result<()> {
     let mut area = 1.0;
     let number = viskunor::outlines::vk_outline_area(v, &mut area);
-    answers::print_measured(number, area);
+    answers::print_measured(to, number, area)
 }
 
-fn perimeter(v: &[f64]) {
+fn perimeter<W: Write>(to: &mut W, v: &[f64]) -> io::Result<()> {
     let mut perimeter = 1.0;
     let number = viskunor::outlines::vk_outline_perimeter(v, &mut perimeter);
-    answers::print_measured(number, perimeter);
+    answers::print_measured(to, number, perimeter)
 }
 
-fn bounds(v: &[f64]) {
+fn bounds<W: Write>(to: &mut W, v: &[f64]) -> io::Result<()> {
     let mut a = 1.0;
     let mut b = 1.0;
     let mut c = 1.0;
     let mut d = 1.0;
     let number = viskunor::outlines::vk_outline_bounds(v, &mut a, &mut b, &mut c, &mut d);
-    answers::print_box(number, a, b, c, d);
+    answers::print_box(to, number, a, b, c, d)
 }
 
-fn contains(v: &[f64], x: f64, y: f64) {
+fn contains<W: Write>(to: &mut W, v: &[f64], x: f64, y: f64) -> io::Result<()> {
     let mut inside = 9;
     let number = viskunor::outlines::vk_outline_contains(v, x, y, &mut inside);
-    answers::print_told(number, inside);
+    answers::print_told(to, number, inside)
 }
 
-fn locate(v: &[f64], x: f64, y: f64) {
+fn locate<W: Write>(to: &mut W, v: &[f64], x: f64, y: f64) -> io::Result<()> {
     let mut location = 9;
     let number = viskunor::outlines::vk_outline_locate(v, x, y, &mut location);
-    answers::print_told(number, location);
+    answers::print_told(to, number, location)
 }
 
-fn distance(v: &[f64], x: f64, y: f64) {
+fn distance<W: Write>(to: &mut W, v: &[f64], x: f64, y: f64) -> io::Result<()> {
     let mut d = 1.0;
     let mut a = 1.0;
     let mut b = 1.0;
     let number = viskunor::outlines::vk_outline_distance(v, x, y, &mut d, &mut a, &mut b);
-    answers::print_three(number, d, a, b);
+    answers::print_three(to, number, d, a, b)
 }
 
 // Centre, semi-axes, point.
-fn ellipse(v: &[f64]) {
+fn ellipse<W: Write>(to: &mut W, v: &[f64]) -> io::Result<()> {
     if v.len() < 6 {
-        io::write_all(1, b"too short\n");
-        return;
+        return to.write_all(b"too short\n");
     }
     let mut x = 1.0;
     let mut y = 1.0;
@@ -97,7 +98,7 @@ fn ellipse(v: &[f64]) {
     let number = viskunor::ellipses::vk_ellipse_nearest(
         v[0], v[1], v[2], v[3], v[4], v[5], &mut x, &mut y, &mut d,
     );
-    answers::print_three(number, x, y, d);
+    answers::print_three(to, number, x, y, d)
 }
 
 // A count of places, of which there are `most`.
@@ -109,26 +110,33 @@ pub fn places(n: u64, most: usize) -> usize
 }
 
 // Makes an outline in a list of zeros, of which n are lent.
-fn make(v: &[f64], n: u64) {
+fn make<W: Write>(to: &mut W, v: &[f64], n: u64) -> io::Result<()> {
     let mut space = [0.0; 64];
-    make_in(v, places(n, 64), &mut space);
+    make_in(to, v, places(n, 64), &mut space)
 }
 
-fn make_in(v: &[f64], n: usize, made: &mut [f64])
+fn make_in<W: Write>(to: &mut W, v: &[f64], n: usize, made: &mut [f64]) -> io::Result<()>
     requires { n ≤ length made.old }
 {
     let mut count = 9;
     let number = viskunor::outlines::vk_outline_make(v, &mut made[..n], &mut count);
-    answers::print_made(number, count, made, n);
+    answers::print_made(to, number, count, made, n)
 }
 
 // Fills a cell, in a list of ones, of which n are lent.
-fn fill(v: &[f64], low: Pair, high: Pair, n: u64) {
+fn fill<W: Write>(to: &mut W, v: &[f64], low: Pair, high: Pair, n: u64) -> io::Result<()> {
     let mut space = [1.0; 64];
-    fill_in(v, low, high, places(n, 64), &mut space);
+    fill_in(to, v, low, high, places(n, 64), &mut space)
 }
 
-fn fill_in(v: &[f64], low: Pair, high: Pair, n: usize, work: &mut [f64])
+fn fill_in<W: Write>(
+    to: &mut W,
+    v: &[f64],
+    low: Pair,
+    high: Pair,
+    n: usize,
+    work: &mut [f64],
+) -> io::Result<()>
     requires { n ≤ length work.old }
 {
     let mut fill = 1.0;
@@ -141,33 +149,33 @@ fn fill_in(v: &[f64], low: Pair, high: Pair, n: usize, work: &mut [f64])
         &mut work[..n],
         &mut fill,
     );
-    answers::print_filled(number, fill, work, n);
+    answers::print_filled(to, number, fill, work, n)
 }
 
 // The operations on a list alone.
-fn answer_alone(name: u64, v: &[f64]) {
+fn answer_alone<W: Write>(to: &mut W, name: u64, v: &[f64]) -> io::Result<()> {
     if name == AREA {
-        return area(v);
+        return area(to, v);
     }
     if name == PERIMETER {
-        return perimeter(v);
+        return perimeter(to, v);
     }
     if name == BOUNDS {
-        return bounds(v);
+        return bounds(to, v);
     }
     if name == ELLIPSE {
-        return ellipse(v);
+        return ellipse(to, v);
     }
     if name == BUILD {
-        return indexes::build(v);
+        return indexes::build(to, v);
     }
-    io::write_all(1, b"unknown\n");
+    to.write_all(b"unknown\n")
 }
 
 // Two floats, a point's or a cell's corner, and the reader past them.
-pub fn two_floats(buf: &mut [u8], r: Reader) -> Pair {
-    let x = read::word(buf, r);
-    let y = read::word(buf, x.reader);
+pub fn two_floats<R: Read>(input: &mut R, buf: &mut [u8], r: Reader) -> Pair {
+    let x = read::word(input, buf, r);
+    let y = read::word(input, buf, x.reader);
     let reader = y.reader;
     Pair {
         x: floats::float(x.number),
@@ -177,69 +185,108 @@ pub fn two_floats(buf: &mut [u8], r: Reader) -> Pair {
 }
 
 // The operations with a point, which comes after the outline.
-fn answer_at(name: u64, buf: &mut [u8], r: Reader, v: &[f64]) -> Reader {
-    let p = two_floats(buf, r);
+fn answer_at<R: Read, W: Write>(
+    name: u64,
+    input: &mut R,
+    to: &mut W,
+    buf: &mut [u8],
+    r: Reader,
+    v: &[f64],
+) -> io::Result<Reader> {
+    let p = two_floats(input, buf, r);
     if name == CONTAINS {
-        contains(v, p.x, p.y);
+        contains(to, v, p.x, p.y)?;
     } else if name == LOCATE {
-        locate(v, p.x, p.y);
+        locate(to, v, p.x, p.y)?;
     } else {
-        distance(v, p.x, p.y);
+        distance(to, v, p.x, p.y)?;
     }
-    p.reader
+    Ok(p.reader)
 }
 
 // The fill: the cell's corners and the count of places come after the outline.
-fn answer_fill(buf: &mut [u8], r: Reader, v: &[f64]) -> Reader {
-    let low = two_floats(buf, r);
-    let high = two_floats(buf, low.reader);
-    let n = read::word(buf, high.reader);
-    fill(v, low, high, n.number);
-    n.reader
+fn answer_fill<R: Read, W: Write>(
+    input: &mut R,
+    to: &mut W,
+    buf: &mut [u8],
+    r: Reader,
+    v: &[f64],
+) -> io::Result<Reader> {
+    let low = two_floats(input, buf, r);
+    let high = two_floats(input, buf, low.reader);
+    let n = read::word(input, buf, high.reader);
+    fill(to, v, low, high, n.number)?;
+    Ok(n.reader)
 }
 
 // `meeting`: the cell's corners come after the boxes.
-fn answer_meeting(buf: &mut [u8], r: Reader, v: &[f64]) -> Reader {
-    let low = two_floats(buf, r);
-    let high = two_floats(buf, low.reader);
-    indexes::meeting(v, low, high);
-    high.reader
+fn answer_meeting<R: Read, W: Write>(
+    input: &mut R,
+    to: &mut W,
+    buf: &mut [u8],
+    r: Reader,
+    v: &[f64],
+) -> io::Result<Reader> {
+    let low = two_floats(input, buf, r);
+    let high = two_floats(input, buf, low.reader);
+    indexes::meeting(to, v, low, high)?;
+    Ok(high.reader)
 }
 
-fn answer_of(name: u64, buf: &mut [u8], r: Reader, v: &[f64]) -> Reader {
+fn answer_of<R: Read, W: Write>(
+    name: u64,
+    input: &mut R,
+    to: &mut W,
+    buf: &mut [u8],
+    r: Reader,
+    v: &[f64],
+) -> io::Result<Reader> {
     if name == MAKE {
-        let n = read::word(buf, r);
-        make(v, n.number);
-        return n.reader;
+        let n = read::word(input, buf, r);
+        make(to, v, n.number)?;
+        return Ok(n.reader);
     }
     if name == FILL {
-        return answer_fill(buf, r, v);
+        return answer_fill(input, to, buf, r, v);
     }
     if name == MEETING {
-        return answer_meeting(buf, r, v);
+        return answer_meeting(input, to, buf, r, v);
     }
     if name == ANY_AT || name == NEAREST {
-        return sets::answer(name == ANY_AT, buf, r, v);
+        return sets::answer(name == ANY_AT, input, to, buf, r, v);
     }
     if name == NEAREST_MANY {
-        return sets::answer_many(buf, r, v);
+        return sets::answer_many(input, to, buf, r, v);
     }
     if name == CONTAINS || name == LOCATE || name == DISTANCE {
-        return answer_at(name, buf, r, v);
+        return answer_at(name, input, to, buf, r, v);
     }
-    answer_alone(name, v);
-    r
+    answer_alone(to, name, v)?;
+    Ok(r)
 }
 
-fn answer_in(name: u64, buf: &mut [u8], r: Reader, numbers: &mut [f64]) -> Reader {
-    let list = read::list(buf, r, numbers);
+fn answer_in<R: Read, W: Write>(
+    name: u64,
+    input: &mut R,
+    to: &mut W,
+    buf: &mut [u8],
+    r: Reader,
+    numbers: &mut [f64],
+) -> io::Result<Reader> {
+    let list = read::list(input, buf, r, numbers);
     let n = list.count;
-    answer_of(name, buf, list.reader, &numbers[..n])
+    answer_of(name, input, to, buf, list.reader, &numbers[..n])
 }
 
 // Makes the call that the name stands for; its arguments are what the reader has next, an outline
 // first.
-pub fn answer(name: u64, buf: &mut [u8], r: Reader) -> Reader {
+pub fn answer<R: Read, W: Write>(
+    name: u64,
+    input: &mut R,
+    to: &mut W,
+    buf: &mut [u8],
+    r: Reader,
+) -> io::Result<Reader> {
     let mut numbers = [0.0; 64];
-    answer_in(name, buf, r, &mut numbers)
+    answer_in(name, input, to, buf, r, &mut numbers)
 }

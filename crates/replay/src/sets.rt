@@ -5,8 +5,10 @@ use crate::outlines;
 use crate::outlines::Pair;
 use sample::read::Reader;
 use sample::{answers, read};
+use std::io;
+use std::io::{Read, Write};
 
-fn any_at(v: &[f64], counts: &[u32], p: Pair) {
+fn any_at<W: Write>(to: &mut W, v: &[f64], counts: &[u32], p: Pair) -> io::Result<()> {
     let mut corners = [1.0; 2044];
     let mut links = [1; 1022];
     let mut items = [1; 1024];
@@ -21,10 +23,10 @@ fn any_at(v: &[f64], counts: &[u32], p: Pair) {
         &mut items,
         &mut any,
     );
-    answers::print_told(number, any);
+    answers::print_told(to, number, any)
 }
 
-fn nearest(v: &[f64], counts: &[u32], p: Pair) {
+fn nearest<W: Write>(to: &mut W, v: &[f64], counts: &[u32], p: Pair) -> io::Result<()> {
     let mut corners = [1.0; 2044];
     let mut links = [1; 1022];
     let mut items = [1; 1024];
@@ -43,35 +45,51 @@ fn nearest(v: &[f64], counts: &[u32], p: Pair) {
         &mut outline,
         &mut distance,
     );
-    answers::print_nearest(number, found, outline, distance);
+    answers::print_nearest(to, number, found, outline, distance)
 }
 
-fn answer_in(any: bool, buf: &mut [u8], r: Reader, v: &[f64], space: &mut [u32]) -> Reader {
-    let list = read::counts(buf, r, space);
+fn answer_in<R: Read, W: Write>(
+    any: bool,
+    input: &mut R,
+    to: &mut W,
+    buf: &mut [u8],
+    r: Reader,
+    v: &[f64],
+    space: &mut [u32],
+) -> io::Result<Reader> {
+    let list = read::counts(input, buf, r, space);
     let n = list.count;
-    let p = outlines::two_floats(buf, list.reader);
+    let p = outlines::two_floats(input, buf, list.reader);
     if any {
-        any_at(v, &space[..n], p);
+        any_at(to, v, &space[..n], p)?;
     } else {
-        nearest(v, &space[..n], p);
+        nearest(to, v, &space[..n], p)?;
     }
-    p.reader
+    Ok(p.reader)
 }
 
-// Makes the call: `any_at_lem` where `any` is set, else `nearest`. The counts and the point are what the
+// Makes the call: `any_at` where `any` is set, else `nearest`. The counts and the point are what the
 // reader has next.
-pub fn answer(any: bool, buf: &mut [u8], r: Reader, v: &[f64]) -> Reader {
+pub fn answer<R: Read, W: Write>(
+    any: bool,
+    input: &mut R,
+    to: &mut W,
+    buf: &mut [u8],
+    r: Reader,
+    v: &[f64],
+) -> io::Result<Reader> {
     let mut space = [0; 16];
-    answer_in(any, buf, r, v, &mut space)
+    answer_in(any, input, to, buf, r, v, &mut space)
 }
 
-fn nearest_many_in(
+fn nearest_many_in<W: Write>(
+    to: &mut W,
     v: &[f64],
     counts: &[u32],
     points: &[f64],
     outlines: &mut [u32],
     distances: &mut [f64],
-) {
+) -> io::Result<()> {
     let mut corners = [1.0; 2044];
     let mut links = [1; 1022];
     let mut items = [1; 1024];
@@ -87,45 +105,59 @@ fn nearest_many_in(
         distances,
         &mut found,
     );
-    answers::print_many(number, found, outlines, distances, points.len() / 2 + 1);
+    answers::print_many(to, number, found, outlines, distances, points.len() / 2 + 1)
 }
 
 // In lists of nines and ones, of which one is a place short: outlines where `short` is 1, distances
 // where it is 2. The answer has one place more of both than there are points.
-fn nearest_many(v: &[f64], counts: &[u32], points: &[f64], short: u64) {
+fn nearest_many<W: Write>(
+    to: &mut W,
+    v: &[f64],
+    counts: &[u32],
+    points: &[f64],
+    short: u64,
+) -> io::Result<()> {
     let mut outlines = [9; 264];
     let mut distances = [1.0; 264];
     let mut few_outlines = [9; 255];
     let mut few_distances = [1.0; 255];
     if short == 1 {
-        nearest_many_in(v, counts, points, &mut few_outlines, &mut distances);
+        nearest_many_in(to, v, counts, points, &mut few_outlines, &mut distances)
     } else if short == 2 {
-        nearest_many_in(v, counts, points, &mut outlines, &mut few_distances);
+        nearest_many_in(to, v, counts, points, &mut outlines, &mut few_distances)
     } else {
-        nearest_many_in(v, counts, points, &mut outlines, &mut distances);
+        nearest_many_in(to, v, counts, points, &mut outlines, &mut distances)
     }
 }
 
-fn answer_many_in(
+fn answer_many_in<R: Read, W: Write>(
+    input: &mut R,
+    to: &mut W,
     buf: &mut [u8],
     r: Reader,
     v: &[f64],
     space: &mut [u32],
     numbers: &mut [f64],
-) -> Reader {
-    let list = read::counts(buf, r, space);
+) -> io::Result<Reader> {
+    let list = read::counts(input, buf, r, space);
     let n = list.count;
-    let asked = read::list(buf, list.reader, numbers);
+    let asked = read::list(input, buf, list.reader, numbers);
     let m = asked.count;
-    let short = read::word(buf, asked.reader);
-    nearest_many(v, &space[..n], &numbers[..m], short.number);
-    short.reader
+    let short = read::word(input, buf, asked.reader);
+    nearest_many(to, v, &space[..n], &numbers[..m], short.number)?;
+    Ok(short.reader)
 }
 
 // Makes the call for many points. The counts, the points and which list is short are what the reader has
 // next.
-pub fn answer_many(buf: &mut [u8], r: Reader, v: &[f64]) -> Reader {
+pub fn answer_many<R: Read, W: Write>(
+    input: &mut R,
+    to: &mut W,
+    buf: &mut [u8],
+    r: Reader,
+    v: &[f64],
+) -> io::Result<Reader> {
     let mut space = [0; 16];
     let mut numbers = [0.0; 520];
-    answer_many_in(buf, r, v, &mut space, &mut numbers)
+    answer_many_in(input, to, buf, r, v, &mut space, &mut numbers)
 }

@@ -7,20 +7,22 @@ ghost use Rattle.sample.specs.Counts.{Counts};
 use crate::outlines;
 use sample::read::{Listed, Reader};
 use sample::{answers, read};
+use std::io;
+use std::io::{Read, Write};
 
 fn wide_count(i: usize) -> u64 {
     i as u64
 }
 
 // A list of bytes: its count, then the bytes, as many as there is room for.
-fn bytes(buf: &mut [u8], r: Reader, out: &mut [u8]) -> Listed
+fn bytes<R: Read>(input: &mut R, buf: &mut [u8], r: Reader, out: &mut [u8]) -> Listed
     ensures { Counts result.count out.new }
 {
-    let n = read::word(buf, r);
+    let n = read::word(input, buf, r);
     let mut at = n.reader;
     let mut i: usize = 0;
     while i < out.len() && wide_count(i) < n.number {
-        let w = read::word(buf, at);
+        let w = read::word(input, buf, at);
         out[i] = (w.number % 256) as u8;
         at = w.reader;
         i += 1;
@@ -32,7 +34,8 @@ fn bytes(buf: &mut [u8], r: Reader, out: &mut [u8]) -> Listed
 }
 
 // Writes what the call answers, and the lent places: n of the first list and m of the second.
-fn print_read(
+fn print_read<W: Write>(
+    to: &mut W,
     number: u32,
     outlines: u32,
     total: u32,
@@ -40,18 +43,25 @@ fn print_read(
     n: usize,
     counts: &[u32],
     m: usize,
-) {
-    answers::print_number(number);
-    io::write_all(1, b" ");
-    answers::print_number(outlines);
-    io::write_all(1, b" ");
-    answers::print_number(total);
-    answers::print_list(vertices, n);
-    answers::print_numbers(counts, m);
-    io::write_all(1, b"\n");
+) -> io::Result<()> {
+    answers::print_number(to, number)?;
+    to.write_all(b" ")?;
+    answers::print_number(to, outlines)?;
+    to.write_all(b" ")?;
+    answers::print_number(to, total)?;
+    answers::print_list(to, vertices, n)?;
+    answers::print_numbers(to, counts, m)?;
+    to.write_all(b"\n")
 }
 
-fn read_in(stream: &[u8], n: usize, m: usize, vertices: &mut [f64], counts: &mut [u32])
+fn read_in<W: Write>(
+    to: &mut W,
+    stream: &[u8],
+    n: usize,
+    m: usize,
+    vertices: &mut [f64],
+    counts: &mut [u32],
+) -> io::Result<()>
     requires { (n ≤ length vertices.old) × (m ≤ length counts.old) }
 {
     let mut outlines = 9;
@@ -63,33 +73,45 @@ fn read_in(stream: &[u8], n: usize, m: usize, vertices: &mut [f64], counts: &mut
         &mut outlines,
         &mut total,
     );
-    print_read(number, outlines, total, vertices, n, counts, m);
+    print_read(to, number, outlines, total, vertices, n, counts, m)
 }
 
 // Reads a stream into a list of ones and a list of nines, of which n and m places are lent.
-fn read_stream(stream: &[u8], n: u64, m: u64) {
+fn read_stream<W: Write>(to: &mut W, stream: &[u8], n: u64, m: u64) -> io::Result<()> {
     let mut vertices = [1.0; 128];
     let mut counts = [9; 64];
     read_in(
+        to,
         stream,
         outlines::places(n, 128),
         outlines::places(m, 64),
         &mut vertices,
         &mut counts,
-    );
+    )
 }
 
-fn answer_in(buf: &mut [u8], r: Reader, space: &mut [u8]) -> Reader {
-    let list = bytes(buf, r, space);
+fn answer_in<R: Read, W: Write>(
+    input: &mut R,
+    to: &mut W,
+    buf: &mut [u8],
+    r: Reader,
+    space: &mut [u8],
+) -> io::Result<Reader> {
+    let list = bytes(input, buf, r, space);
     let len = list.count;
-    let n = read::word(buf, list.reader);
-    let m = read::word(buf, n.reader);
-    read_stream(&space[..len], n.number, m.number);
-    m.reader
+    let n = read::word(input, buf, list.reader);
+    let m = read::word(input, buf, n.reader);
+    read_stream(to, &space[..len], n.number, m.number)?;
+    Ok(m.reader)
 }
 
 // Makes the call. The stream and the two lengths are what the reader has next.
-pub fn answer(buf: &mut [u8], r: Reader) -> Reader {
+pub fn answer<R: Read, W: Write>(
+    input: &mut R,
+    to: &mut W,
+    buf: &mut [u8],
+    r: Reader,
+) -> io::Result<Reader> {
     let mut space = [0; 512];
-    answer_in(buf, r, &mut space)
+    answer_in(input, to, buf, r, &mut space)
 }

@@ -1,4 +1,6 @@
 // Floats from their bits and back.
+use std::io;
+use std::io::Write;
 
 // The float that has these bits; every pattern of a NaN gives the one NaN.
 pub fn float(bits: u64) -> f64 {
@@ -9,16 +11,17 @@ pub fn float(bits: u64) -> f64 {
 }
 
 // Writes the bits of x, or 'nan'.
-pub fn write(x: f64) {
+pub fn write<W: Write>(to: &mut W, x: f64) -> io::Result<()> {
     if number::signs::is_nan(x) {
-        io::write_all(1, b"nan");
+        to.write_all(b"nan")
     } else {
-        io::print_hex(1, f64::to_bits(x), 16);
+        let bits = f64::to_bits(x);
+        write!(to, "{bits:016x}")
     }
 }
 
 // Writes the bits of x, or 'nan', and a line end.
-pub fn print(x: f64) {
-    write(x);
-    io::write_all(1, b"\n");
+pub fn print<W: Write>(to: &mut W, x: f64) -> io::Result<()> {
+    write(to, x)?;
+    to.write_all(b"\n")
 }

@@ -2,8 +2,10 @@
 ghost use Rattle.std.specs.Prelude.{◌<◌};
 ghost use Rattle.sample.specs.Counts.{Counts};
 
+use std::io::Read;
+
 // Where the reader stands in the buffer: the bytes from at up to end are still to be read.
-#[derive(Drop)]
+#[derive(Clone, Copy)]
 pub struct Reader {
     pub at: usize,
     pub end: usize,
@@ -30,21 +32,19 @@ pub fn start() -> Reader {
     Reader { at: 0, end: 0 }
 }
 
-// The reader with a byte ahead of it, unless the input has ended: reads on where all was used.
-fn filled(buf: &mut [u8], r: Reader) -> Reader {
+// The reader with a byte ahead of it, unless the input has ended: reads on where all was used. A read
+// that fails counts as the end of the input.
+fn filled<R: Read>(input: &mut R, buf: &mut [u8], r: Reader) -> Reader {
     if r.at < r.end {
         return r;
     }
-    let got = libc::read(0, buf);
-    Reader {
-        at: 0,
-        end: io::count(got, buf),
-    }
+    let end = input.read(buf).unwrap_or(0);
+    Reader { at: 0, end }
 }
 
 // The next byte.
-fn next(buf: &mut [u8], r: Reader) -> Step {
-    let f = filled(buf, r);
+fn next<R: Read>(input: &mut R, buf: &mut [u8], r: Reader) -> Step {
+    let f = filled(input, buf, r);
     let at = f.at;
     let end = f.end;
     if at < end {
@@ -69,11 +69,11 @@ fn wide(b: u8) -> u64 {
 }
 
 // The first step whose byte is no space and no line end.
-fn skip(buf: &mut [u8], r: Reader) -> Step {
-    let mut s = next(buf, r);
+fn skip<R: Read>(input: &mut R, buf: &mut [u8], r: Reader) -> Step {
+    let mut s = next(input, buf, r);
     let mut turns = u64::MAX;
     while turns > 0 && s.byte <= 32 {
-        s = next(buf, s.reader);
+        s = next(input, buf, s.reader);
         turns -= 1;
     }
     s
@@ -112,8 +112,8 @@ fn push(mut t: Token, byte: u64) -> Token {
 
 // The next token. The reader is then past the byte that ended it, since reading that byte may have
 // filled the buffer anew.
-pub fn word(buf: &mut [u8], r: Reader) -> Token {
-    let mut s = skip(buf, r);
+pub fn word<R: Read>(input: &mut R, buf: &mut [u8], r: Reader) -> Token {
+    let mut s = skip(input, buf, r);
     let mut t = Token {
         len: 0,
         text: 0,
@@ -123,7 +123,7 @@ pub fn word(buf: &mut [u8], r: Reader) -> Token {
     let mut turns = u64::MAX;
     while turns > 0 && is_text(s.byte) {
         t = push(t, s.byte);
-        s = next(buf, s.reader);
+        s = next(input, buf, s.reader);
         turns -= 1;
     }
     let end = s.reader;
@@ -139,14 +139,14 @@ pub struct Listed {
 }
 
 // A list: its count, then its floats, as many as there is room for.
-pub fn list(buf: &mut [u8], r: Reader, out: &mut [f64]) -> Listed
+pub fn list<R: Read>(input: &mut R, buf: &mut [u8], r: Reader, out: &mut [f64]) -> Listed
     ensures { Counts result.count out.new }
 {
-    let n = word(buf, r);
+    let n = word(input, buf, r);
     let mut at = n.reader;
     let mut i: usize = 0;
     while i < out.len() && wide_count(i) < n.number {
-        let w = word(buf, at);
+        let w = word(input, buf, at);
         out[i] = crate::floats::float(w.number);
         at = w.reader;
         i += 1;
@@ -158,14 +158,14 @@ pub fn list(buf: &mut [u8], r: Reader, out: &mut [f64]) -> Listed
 }
 
 // A list of numbers of up to eight digits, likewise.
-pub fn counts(buf: &mut [u8], r: Reader, out: &mut [u32]) -> Listed
+pub fn counts<R: Read>(input: &mut R, buf: &mut [u8], r: Reader, out: &mut [u32]) -> Listed
     ensures { Counts result.count out.new }
 {
-    let n = word(buf, r);
+    let n = word(input, buf, r);
     let mut at = n.reader;
     let mut i: usize = 0;
     while i < out.len() && wide_count(i) < n.number {
-        let w = word(buf, at);
+        let w = word(input, buf, at);
         out[i] = (w.number % 0x1_0000_0000) as u32;
         at = w.reader;
         i += 1;

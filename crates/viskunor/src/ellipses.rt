@@ -7,8 +7,7 @@ ghost use Rattle.ellipse.specs.Ellipse.{ellipse_answer};
 use accept::answers;
 use boundary::Point;
 
-#[unsafe(no_mangle)]
-pub extern "C" fn vk_ellipse_nearest(
+pub fn vk_ellipse_nearest(
     centre_x: f64,
     centre_y: f64,
     semi_x: f64,

@@ -8,8 +8,7 @@ ghost use Rattle.fill.specs.Answers.{fill_call};
 use accept::answers;
 use boundary::{Bounds, Point};
 
-#[unsafe(no_mangle)]
-pub extern "C" fn vk_outline_fill(
+pub fn vk_outline_fill(
     vertices: &[f64],
     min_x: f64,
     min_y: f64,

@@ -12,8 +12,7 @@ use accept::answers;
 use boundary::{Bounds, Point};
 use nodes::Node;
 
-#[unsafe(no_mangle)]
-pub extern "C" fn vk_index_build(
+pub fn vk_index_build(
     boxes: &[f64],
     corners: &mut [f64],
     links: &mut [u32],
@@ -35,8 +34,7 @@ pub extern "C" fn vk_index_build(
 }
 
 // The same as node records. Its proof is a walk by hand, as that of `records::offer` is.
-#[unsafe(no_mangle)]
-pub extern "C" fn vk_index_nodes(
+pub fn vk_index_nodes(
     boxes: &[f64],
     nodes: &mut [Node],
     items: &mut [u32],
@@ -50,19 +48,18 @@ pub extern "C" fn vk_index_nodes(
         items = item_count.new;
       };
       lent = record {
-        nodes = nodes.exit.now;
+        nodes = nodes.new;
         items = items.new;
       };
     }
-        ≡ nodes_call boxes.now nodes.entry.now items.old }
+        ≡ nodes_call boxes.now nodes.old items.old }
 {
     let made = records::records(boxes, nodes.len(), items, node_count, item_count);
     records::offer(nodes, made.list, made.count);
     made.number
 }
 
-#[unsafe(no_mangle)]
-pub extern "C" fn vk_index_meeting(
+pub fn vk_index_meeting(
     boxes: &[f64],
     min_x: f64,
     min_y: f64,

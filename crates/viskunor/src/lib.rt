@@ -1,5 +1,7 @@
-// Every operation as a C host calls it. The work stands in the crates below; include/viskunor.h
-// declares these functions and says what they do in plain words.
+// Every operation as a host calls it. The work stands in the crates below. The crate viskunor_c exports these
+// functions to C; include/viskunor.h declares them and says what they do in plain words.
+#![tactic(auto)]
+
 pub mod ellipses;
 pub mod fills;
 pub mod indexes;
@@ -12,16 +14,14 @@ ghost use Rattle.number.specs.Root.{sqrt_of};
 ghost use Rattle.number.specs.Hypot.{hypot_of};
 
 // The double nearest to the exact square root.
-#[unsafe(no_mangle)]
-pub extern "C" fn vk_sqrt(x: f64) -> f64
+pub fn vk_sqrt(x: f64) -> f64
     ensures { result ≡ sqrt_of x }
 {
     number::root::sqrt(x)
 }
 
 // The square root of a * a + b * b, each operation rounded once.
-#[unsafe(no_mangle)]
-pub extern "C" fn vk_hypot(a: f64, b: f64) -> f64
+pub fn vk_hypot(a: f64, b: f64) -> f64
     ensures { result ≡ hypot_of a b }
 {
     number::root::hypot(a, b)

@@ -9,8 +9,7 @@ ghost use Rattle.geometry.specs.Making.{make_call};
 use accept::answers;
 use boundary::Point;
 
-#[unsafe(no_mangle)]
-pub extern "C" fn vk_outline_make(vertices: &[f64], made: &mut [f64], count: &mut u32) -> u32
+pub fn vk_outline_make(vertices: &[f64], made: &mut [f64], count: &mut u32) -> u32
     ensures { record { answer = record { number = result; count = count.new }; lent = made.new }
         ≡ make_call vertices.now made.old }
 {
@@ -19,8 +18,7 @@ pub extern "C" fn vk_outline_make(vertices: &[f64], made: &mut [f64], count: &mu
     fields.number
 }
 
-#[unsafe(no_mangle)]
-pub extern "C" fn vk_outline_area(vertices: &[f64], area: &mut f64) -> u32
+pub fn vk_outline_area(vertices: &[f64], area: &mut f64) -> u32
     ensures { record { number = result; measure = area.new } ≡ measure_fields (area_answer vertices.now) }
 {
     let fields = answers::measure_fields(geometry::polygon::area(vertices));
@@ -28,8 +26,7 @@ pub extern "C" fn vk_outline_area(vertices: &[f64], area: &mut f64) -> u32
     fields.number
 }
 
-#[unsafe(no_mangle)]
-pub extern "C" fn vk_outline_perimeter(vertices: &[f64], perimeter: &mut f64) -> u32
+pub fn vk_outline_perimeter(vertices: &[f64], perimeter: &mut f64) -> u32
     ensures { record { number = result; measure = perimeter.new } ≡ measure_fields (perimeter_answer vertices.now) }
 {
     let fields = answers::measure_fields(geometry::polygon::perimeter(vertices));
@@ -37,8 +34,7 @@ pub extern "C" fn vk_outline_perimeter(vertices: &[f64], perimeter: &mut f64) ->
     fields.number
 }
 
-#[unsafe(no_mangle)]
-pub extern "C" fn vk_outline_bounds(
+pub fn vk_outline_bounds(
     vertices: &[f64],
     min_x: &mut f64,
     min_y: &mut f64,
@@ -56,8 +52,7 @@ pub extern "C" fn vk_outline_bounds(
     fields.number
 }
 
-#[unsafe(no_mangle)]
-pub extern "C" fn vk_outline_contains(vertices: &[f64], x: f64, y: f64, inside: &mut u32) -> u32
+pub fn vk_outline_contains(vertices: &[f64], x: f64, y: f64, inside: &mut u32) -> u32
     ensures { record { number = result; count = inside.new } ≡ count_fields (contains_answer vertices.now (record { x = x; y = y })) }
 {
     let fields = answers::count_fields(geometry::polygon::contains(vertices, Point { x, y }));
@@ -65,8 +60,7 @@ pub extern "C" fn vk_outline_contains(vertices: &[f64], x: f64, y: f64, inside: 
     fields.number
 }
 
-#[unsafe(no_mangle)]
-pub extern "C" fn vk_outline_locate(vertices: &[f64], x: f64, y: f64, location: &mut u32) -> u32
+pub fn vk_outline_locate(vertices: &[f64], x: f64, y: f64, location: &mut u32) -> u32
     ensures { record { number = result; count = location.new } ≡ count_fields (locate_answer vertices.now (record { x = x; y = y })) }
 {
     let fields = answers::count_fields(geometry::polygon::locate(vertices, Point { x, y }));
@@ -74,8 +68,7 @@ pub extern "C" fn vk_outline_locate(vertices: &[f64], x: f64, y: f64, location: 
     fields.number
 }
 
-#[unsafe(no_mangle)]
-pub extern "C" fn vk_outline_distance(
+pub fn vk_outline_distance(
     vertices: &[f64],
     x: f64,
     y: f64,

@@ -9,8 +9,7 @@ ghost use Rattle.many.specs.Answers.{lent_as, many_call};
 use accept::answers;
 use boundary::Point;
 
-#[unsafe(no_mangle)]
-pub extern "C" fn vk_set_any_at(
+pub fn vk_set_any_at(
     vertices: &[f64],
     counts: &[u32],
     x: f64,
@@ -29,8 +28,7 @@ pub extern "C" fn vk_set_any_at(
     told.number
 }
 
-#[unsafe(no_mangle)]
-pub extern "C" fn vk_set_nearest(
+pub fn vk_set_nearest(
     vertices: &[f64],
     counts: &[u32],
     x: f64,
@@ -53,8 +51,7 @@ pub extern "C" fn vk_set_nearest(
     told.number
 }
 
-#[unsafe(no_mangle)]
-pub extern "C" fn vk_set_nearest_many(
+pub fn vk_set_nearest_many(
     vertices: &[f64],
     counts: &[u32],
     points: &[f64],

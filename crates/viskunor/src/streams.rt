@@ -1,10 +1,9 @@
-// GDSII streams (document 02, U3).
+// GDSII streams.
 ghost use Rattle.std.specs.Prelude.{◌≡◌};
 ghost use Rattle.gdsii.specs.Answers.{set_lent, read_call};
 
 // Reads a stream into a set. A refused call puts zeros into both fields and leaves both lists as they were.
-#[unsafe(no_mangle)]
-pub extern "C" fn vk_gdsii_read(
+pub fn vk_gdsii_read(
     stream: &[u8],
     vertices: &mut [f64],
     counts: &mut [u32],
