@@ -130,8 +130,7 @@ pub fn records(
     }
 }
 
-// Writes the first n nodes of a list to the front of a lent list. Its proof is a walk by hand: the borrow
-// checker covers no slice of structs.
+// Writes the first n nodes of a list to the front of a lent list.
 pub fn offer(nodes: &mut [Node], list: [Node; 511], n: usize)
     requires { (n ≤ 511) × (n ≤ length nodes.old) }
     ensures { nodes.new ≡ take n list ++ drop n nodes.old }
