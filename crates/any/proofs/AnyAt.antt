@@ -1,4 +1,4 @@
--- What `any_at_lem` tells: yes where an outline whose box has the point contains it, and yes only where an outline listed for the point contains it. Assumes nothing.
+-- What `any_at` tells: yes where an outline whose box has the point contains it, and yes only where an outline listed for the point contains it. Assumes nothing.
 use mathlib.Core.Path.{◌≡◌, refl, sym, ap, ◌∙◌}
 use mathlib.Core.Bool.{Bool, true, false, cond, ◌||◌, true≢false}
 use mathlib.Core.List.{List, [], ◌∷◌}

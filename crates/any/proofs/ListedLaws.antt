@@ -1,4 +1,4 @@
--- What the walk of a set's index lists for a point, and what `any_at_lem` then answers. Assumes nothing.
+-- What the walk of a set's index lists for a point, and what `any_at` then answers. Assumes nothing.
 use mathlib.Core.Path.{◌≡◌, refl, ap, ◌∙◌}
 use mathlib.Core.Bool.{Bool}
 use mathlib.Core.List.{List}

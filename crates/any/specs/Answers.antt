@@ -1,4 +1,4 @@
--- What `any_at_lem` answers, and all that it leaves. Definitions only.
+-- What `any_at` answers, and all that it leaves. Definitions only.
 use Rattle.std.specs.Prelude.{Bool, cond, List, ℕ, Float}
 use Rattle.boundary.specs.declared.Point.{Point}
 use Rattle.boundary.specs.Boxes.{point_box}

@@ -1,4 +1,4 @@
--- What `any_at_lem` promises. Definitions only.
+-- What `any_at` promises. Definitions only.
 
 -- What the call answers and leaves.
 pub mod Answers

@@ -1,4 +1,6 @@
-// `any_at_lem` (index.rs) over a set of outlines.
+// `any_at` (index.rs) over a set of outlines.
+#![tactic(auto)]
+
 ghost use Rattle.std.specs.Prelude.{◌≡◌, ◌*◌, ◌≤◌, length};
 ghost use Rattle.lists.specs.Lists.{any};
 ghost use Rattle.index.specs.Buffer.{buffer};

@@ -22,7 +22,7 @@ use Rattle.accept.specs.declared.Test.TheVariants.{Passed, Failed}
 use Rattle.accept.proofs.TestLaws.{refusing_passed}
 use Rattle.tree.specs.Tree.{Tree, leaf, inner, tree_box, index_of, items_of}
 use Rattle.nodes.specs.Layout.{first_at, count_at}
-use Rattle.index.specs.Buffer.{IndexBuffer, buffer, short_buffer, holding, grown, cleared, Stands, levels}
+use Rattle.index.specs.Buffer.{IndexBuffer, short_buffer, holding, grown, cleared, Stands, levels}
 use Rattle.index.specs.Answers.{boxes_tested, Accepted}
 use Rattle.lists.proofs.StoreLaws.{sets_front}
 use Rattle.index.proofs.GrowLaws.{length_index_items, accepted_of, grown_lent, holding_cleared}

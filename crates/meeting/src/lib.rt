@@ -1,4 +1,6 @@
 // `meeting` (index.rs): the items of the leaves that share a point with a cell.
+#![tactic(auto)]
+
 ghost use Rattle.std.specs.Prelude.{◌≡◌, not, ◌∷◌, [], ◌+◌, ◌≤◌, ◌<◌, ◌^◌, ltb, length};
 ghost use Rattle.boundary.specs.Boxes.{box_fits};
 ghost use Rattle.lists.specs.Lists.{run};

@@ -1,12 +1,10 @@
 -- `meeting::copy` meets its contract: the items so far are stored. Assumes nothing.
-use Rattle.meeting.proofs.WalkLaws.{Puts, put_within, no_run, next_item}
+use Rattle.meeting.proofs.WalkLaws.{Puts}
 use Rattle.nodes.specs.Layout.{item_at}
 use Rattle.lists.specs.Lists.{run}
 use lib.ListN.{length}
-use native.Mathlib.Nat.{le_antisymm}
 use Prim.Native.Nat.{◌≤◌, ◌-◌}
-use mathlib.Core.Path.{◌≡◌, refl}
-use borrow.Author.Rules.{rules}
+use mathlib.Core.Path.{◌≡◌}
 use Rattle.meeting.proofs.copy.Given as goal
 
 abbrev pub invariant-loop-i : goal.invariant-loop-i

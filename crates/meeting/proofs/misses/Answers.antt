@@ -1,6 +1,5 @@
 -- `meeting::misses` meets its contract. Assumes nothing.
 use Rattle.meeting.specs.Meeting.{apart}
-use borrow.Author.Rules.{rules}
 use Rattle.meeting.proofs.misses.Goals as goal
 
 pub returns : goal.returns

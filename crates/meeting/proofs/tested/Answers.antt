@@ -1,5 +1,4 @@
 -- `meeting::tested` meets its contract. Assumes nothing.
-use borrow.Author.Rules.{rules}
 use Rattle.meeting.proofs.tested.Goals as goal
 
 pub returns : goal.returns

@@ -3,7 +3,6 @@ use Rattle.meeting.proofs.WalkLaws.{no_run}
 use Rattle.meeting.specs.Walk.{found}
 use borrow.Author.Tests.{eq-eqb, ne_eqb}
 use native.Mathlib.Omega.{arith}
-use borrow.Author.Rules.{rules}
 use Rattle.meeting.proofs.walk.Goals as goal
 
 pub returns-then-n-eq0 : goal.returns-then-n-eq0

@@ -1,0 +1,35 @@
+-- `any::any_holds` meets its contract: the outlines so far do not contain the point, and those that are left give the answer. Assumes nothing.
+use mathlib.Core.Path.{◌≡◌, refl, sym, ap, ◌∙◌}
+use mathlib.Core.Bool.{false}
+use lib.ListN.{get_or}
+use Rattle.lists.proofs.FoldLaws.{fold_drop_end}
+use Rattle.lists.specs.Lists.{any}
+use Rattle.set.specs.Set.{outlines_of}
+use Rattle.any.specs.Answers.{contains_in}
+use Rattle.any.proofs.AnyLaws.{any_step, found_at, missed_at}
+use borrow.Author.Rules.{rules}
+use Rattle.any.proofs.any_holds.Goals as goal
+
+pub loop-i-init : goal.loop-i-init
+unfolding any
+loop-i-init c = (search rules, refl)
+
+pub returns-then-holds_at : goal.returns-then-holds_at
+returns-then-holds_at c =
+    let a = c.args in
+    let f = contains_in (outlines_of a.v.now a.counts.now) a.p in
+    let e : c.holds_at.result ≡ f (get_or a.list.now c.loop-i.i 0) = c.holds_at.ensures ∙ ap f c.at.ensures in
+    found_at f 0 a.list.now _ c.loop-i-test.true c.loop-i.invariant.1 (sym e ∙ c.if-holds_at.true)
+
+pub loop-i-preserved : goal.loop-i-preserved
+loop-i-preserved c =
+    let a = c.args in
+    let f = contains_in (outlines_of a.v.now a.counts.now) a.p in
+    let e : c.holds_at.result ≡ f (get_or a.list.now c.loop-i.i 0) = c.holds_at.ensures ∙ ap f c.at.ensures in
+    (search rules, missed_at f 0 a.list.now _ c.loop-i-test.true c.loop-i.invariant.1 (sym e ∙ c.if-holds_at.false))
+
+pub returns : goal.returns
+returns c =
+    let a = c.args in
+    let f = contains_in (outlines_of a.v.now a.counts.now) a.p in
+    sym (fold_drop_end (any_step f) false a.list.now _ c.loop-i.invariant.0 c.loop-i-test.false) ∙ c.loop-i.invariant.1
