@@ -1,4 +1,6 @@
 // The boxes of a list, widened, and their centres.
+#![tactic(auto)]
+
 ghost use Rattle.std.specs.Prelude.{◌≡◌, ◌*◌, ◌≤◌, ◌<◌, ◌^◌, length};
 ghost use Rattle.std.proofs.lemmas.List.Edits.{sets};
 ghost use Rattle.boundary.specs.Boxes.{scale_of, widened_of};

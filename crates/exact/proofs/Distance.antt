@@ -102,13 +102,15 @@ module _ {u a b c d : ℤ} (b0 : pos 0 ≺ b) (d0 : pos 0 ≺ d) where
 module _ (q : PointZ) {u num den : ℤ} (d0 : pos 0 ≺ den) where
   near_above : {fs : List EdgeZ} → Long fs → Every (λ f. NoneNearer f q num den) fs → Some (λ f. AtMost u (num_z f q) (den_z f q)) fs → AtMost u num den
   unfolding Every
-  near_above (l, ls) (h, hs) (here {x = f} m) = less_at_most d0 (den_above f q l) (not_above_least h (least_distance f q l)) m
-  near_above (l, ls) (h, hs) (there m) = near_above ls hs m
+  near_above {fs = []} _ _ s = elim s [ ]
+  near_above {fs = f ∷ fs} (l, ls) (h, hs) (here m) = less_at_most d0 (den_above f q l) (not_above_least h (least_distance f q l)) m
+  near_above {fs = f ∷ fs} (l, ls) (h, hs) (there m) = near_above ls hs m
 
   near_below : {fs : List EdgeZ} → Long fs → Every (λ f. AtLeast u (num_z f q) (den_z f q)) fs → Some (λ f. LeastDistance f q num den) fs → AtLeast u num den
   unfolding Every
-  near_below (l, ls) (h, hs) (here {x = f} m) = more_at_least d0 (den_above f q l) (not_above_least (least_distance f q l).none_nearer m) h
-  near_below (l, ls) (h, hs) (there m) = near_below ls hs m
+  near_below {fs = []} _ _ s = elim s [ ]
+  near_below {fs = f ∷ fs} (l, ls) (h, hs) (here m) = more_at_least d0 (den_above f q l) (not_above_least (least_distance f q l).none_nearer m) h
+  near_below {fs = f ∷ fs} (l, ls) (h, hs) (there m) = near_below ls hs m
 
 -- d is u units, near the least distance
 record Magnitude (fs : List EdgeZ) (q : PointZ) (d : Float) : Type 0 where
@@ -169,6 +171,7 @@ module _ {p : Point} {q : PointZ} (P : PointOn p q) where
   -- a point of the grid that is on no edge is more than 2 ^ -24 of a step from each
   none_at_zero : {es : List Edge} {fs : List EdgeZ} → EdgesOn es fs → Long fs → Every (λ f. on_edge_z q f ≡ false) fs → Some (λ f. AtMost (pos 0) (num_z f q) (den_z f q)) fs → ⊥
   unfolding Every
+  none_at_zero none _ _ s = elim s [ ]
   none_at_zero (more {y = f} E r) (l, ls) (o, os) (here m) = too_near tolerance (num_z f q) (den_z f q) (record { lt = tt }) (off_edge_apart f q l (λ t. subst T o t)) (den_small E P l) m.holds
   none_at_zero (more E r) (l, ls) (o, os) (there m) = none_at_zero r ls os m
 

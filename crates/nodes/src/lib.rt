@@ -1,4 +1,6 @@
 // The build, which calls itself on both halves, and puts the nodes where the Rust numbers them.
+#![tactic(auto)]
+
 ghost use Rattle.std.specs.Prelude.{◌≡◌, [], ◌∷◌, ◌*◌, ◌<◌, ◌^◌, leb, length};
 ghost use Rattle.std.proofs.lemmas.List.Edits.{sets};
 ghost use Rattle.sorts.specs.Sort.{Sorted};

@@ -1,5 +1,7 @@
 // A guess at the middle of items by their keys: about as many keys are taken below it as go before the
 // middle item. Whoever uses the guess tests it, so nothing is promised of it.
+#![tactic(auto)]
+
 ghost use Rattle.std.specs.Prelude.{◌≤◌, length};
 
 use boundary::{greater_of, lesser_of};

@@ -1,5 +1,5 @@
 -- The list in order, and two lists merged, under any order of numbers. Definitions only.
-use Rattle.std.specs.Prelude.{◌≡◌, Bool, true, false, not, cond, List, [], ◌∷◌, ◌++◌, ℕ, ◌+◌, ◌-◌, ◌≤◌, leb, ltb, length, get_or, take, drop}
+use Rattle.std.specs.Prelude.{◌≡◌, Bool, true, false, not, cond, List, [], ◌∷◌, ◌++◌, ℕ, ◌-◌, ◌≤◌, leb, ltb, length, get_or, take, drop}
 use Rattle.lists.specs.Lists.{times, Every}
 
 -- x before the first member that it goes before

@@ -1,4 +1,6 @@
 // A merge sort of item numbers by a key, with lent working space.
+#![tactic(auto)]
+
 ghost use Rattle.std.specs.Prelude.{◌≡◌, ◌++◌, ◌+◌, ◌≤◌, length, take, drop};
 ghost use Rattle.sorts.specs.Sort.{sort, merge, from_first, parted_by, Dealt};
 ghost use Rattle.sorts.specs.Keys.{total_less, precedes_by, precedes, ahead, ahead_bit, key_in};

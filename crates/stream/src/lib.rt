@@ -1,4 +1,6 @@
 // GDSII streams: numbers as bytes, records, and the order they come in.
+#![tactic(auto)]
+
 ghost use Rattle.std.specs.Prelude.{◌≡◌, ◌+◌, ◌*◌, ◌<◌, ◌≤◌, length, take, drop, get_or, nat_abs};
 ghost use Rattle.stream.specs.Bytes.{pair_at, step_at, steps_in};
 ghost use Rattle.stream.specs.Records.{asked_for, asked_after, at_end, astray, misfit, other_unit, far_step, any_far, SameStep};
@@ -99,6 +101,7 @@ fn asked_for(t: usize, wanted: usize, then: Awaited) -> Awaited
 }
 
 // What is asked for after a record of type t.
+#[tactic(auto, unfolding(crate::specs::Records::asked_after))]
 pub fn asked_after(asked: Awaited, t: usize) -> Awaited
     ensures { result ≡ asked_after asked t }
 {
@@ -127,6 +130,7 @@ pub fn asked_after(asked: Awaited, t: usize) -> Awaited
 }
 
 // Whether nothing more is asked for.
+#[tactic(auto, unfolding(crate::specs::Records::at_end))]
 pub fn is_at_end(asked: Awaited) -> bool
     ensures { result ≡ at_end asked }
 {
@@ -138,6 +142,7 @@ pub fn is_at_end(asked: Awaited) -> bool
 }
 
 // Whether another type came than was asked for.
+#[tactic(auto, unfolding(crate::specs::Records::astray))]
 pub fn is_astray(asked: Awaited) -> bool
     ensures { result ≡ astray asked }
 {

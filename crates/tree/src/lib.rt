@@ -1,4 +1,6 @@
 // What the build does with a node's items: the box around theirs, that of their centres, and the split.
+#![tactic(auto)]
+
 ghost use Rattle.std.specs.Prelude.{◌≡◌, ◌/◌, ◌≤◌, ◌^◌, leb, length};
 ghost use Rattle.boundary.specs.Boxes.{hull, stretched};
 ghost use Rattle.sorts.specs.Sort.{sort, Sorted, halves};

@@ -1,15 +1,11 @@
 -- `stream::any_far` meets its contract: what was found so far and the numbers that are left give the answer. Assumes nothing.
-use mathlib.Core.Path.{◌≡◌, sym, ap, ◌∙◌}
+use mathlib.Core.Path.{◌≡◌}
 use mathlib.Core.Bool.{Bool, ◌||◌}
 use Prim.Native.Nat.{◌-◌, ◌≤◌}
-use native.Mathlib.Nat.{sub-zero}
-use borrow.Author.Rules.{rules}
 use lib.IntN.{ℤ}
-use Rattle.lists.specs.Lists.{run, fold, any}
-use Rattle.lists.proofs.FoldLaws.{fold_run_next, fold_run_end}
+use Rattle.lists.specs.Lists.{run, fold}
 use Rattle.stream.specs.Bytes.{step_at}
 use Rattle.stream.specs.Records.{far_step, any_far}
-use Rattle.stream.proofs.StepLaws.{small_same, steps_placed}
 use Rattle.stream.proofs.any_far.Given as goal
 
 abbrev found : Bool → ℤ → Bool

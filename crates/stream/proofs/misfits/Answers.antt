@@ -1,7 +1,6 @@
 -- `stream::misfits` meets its contract: its text is the definition's. Assumes nothing.
 use Rattle.stream.specs.Records.{misfit}
 use mathlib.Core.Path.{refl}
-use borrow.Author.Rules.{rules}
 use Rattle.stream.proofs.misfits.Goals as goal
 
 pub returns : goal.returns

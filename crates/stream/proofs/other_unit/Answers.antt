@@ -1,5 +1,4 @@
 -- `stream::other_unit` meets its contract: eight bytes, one by one. Assumes nothing.
-use borrow.Author.Rules.{rules}
 use Rattle.stream.proofs.StepLaws.{unit_place}
 use Rattle.stream.proofs.other_unit.Goals as goal
 

@@ -1,7 +1,6 @@
 -- `stream::step_at` meets its contract: the reach is added before the number is brought below 2 ^ 32, and taken away after. Assumes nothing.
 use Prim.Native.Nat.{ℕ, ◌<◌}
 use native.Mathlib.Omega.{arith}
-use borrow.Author.Rules.{rules}
 use Rattle.stream.specs.Bytes.{quad_of}
 use Rattle.stream.proofs.StepLaws.{step_stands, shifted_fits, shifted_is}
 use Rattle.stream.proofs.step_at.Goals as goal

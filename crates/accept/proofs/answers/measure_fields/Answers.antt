@@ -1,0 +1,18 @@
+-- `accept::answers::measure_fields` meets its contract. Assumes nothing.
+use borrow.Author.Rules.{rules}
+use Rattle.accept.proofs.answers.measure_fields.Goals as goal
+
+pub returns-in-Refused : goal.returns-in-Refused
+returns-in-Refused c = rw (c.in-Refused.is, c.no_measure.ensures, c.number_of.ensures)
+
+pub returns-in-Count : goal.returns-in-Count
+returns-in-Count c = rw (c.in-Count.is, c.no_measure-in-Count.ensures)
+
+pub returns-in-Measure : goal.returns-in-Measure
+returns-in-Measure c = rw c.in-Measure.is
+
+pub returns-in-Box : goal.returns-in-Box
+returns-in-Box c = rw (c.in-Box.is, c.no_measure-in-Box.ensures)
+
+pub returns-in-DistanceWith : goal.returns-in-DistanceWith
+returns-in-DistanceWith c = rw (c.in-DistanceWith.is, c.no_measure-in-DistanceWith.ensures)

@@ -1,0 +1,36 @@
+-- `accept::refusals::edges_tested` meets its contract: what was summed so far and the edges that are left give both answers. Assumes nothing.
+use mathlib.Core.Path.{◌≡◌, sym, ap, ◌∙◌}
+use mathlib.Core.Bool.{Bool, false, ◌||◌}
+use Prim.Native.Nat.{◌-◌, ◌<◌}
+use native.Mathlib.Nat.{sub-zero}
+use native.Mathlib.Omega.{arith}
+use borrow.Author.Rules.{rules}
+use lib.Ieee.{Float, binary64, add, of_bits}
+use Rattle.boundary.specs.declared.Edge.{Edge}
+use Rattle.lists.specs.Lists.{run, fold, any, total}
+use Rattle.boundary.specs.Outline.{same_point, count, vertex_at, edge_at, edges}
+use Rattle.boundary.proofs.OutlineLaws.{next_edge, last_edge}
+use Rattle.lists.proofs.FoldLaws.{fold_run_next, fold_run_end, fold_found}
+use Rattle.accept.specs.Area.{shoelace_term, area_of}
+use Rattle.accept.specs.Verdicts.{edges_verdict}
+use Rattle.accept.proofs.refusals.edges_tested.Given as goal
+
+abbrev joins : Edge → Bool
+joins e = same_point e.a e.b
+
+abbrev found : Bool → Edge → Bool
+found b e = b || joins e
+
+abbrev summed : Float → Edge → Float
+summed s e = add binary64 s (shoelace_term e)
+
+-- edge i starts at a, and no edge before it joins equal vertices
+abbrev pub invariant-loop-i : goal.invariant-loop-i
+invariant-loop-i l =
+    (l.i < count l.v)
+    × (l.a ≡ vertex_at l.v l.i)
+    × (fold found false (run (edge_at l.v) l.i (count l.v - l.i)) ≡ any joins (edges l.v))
+    × (fold summed l.sum (run (edge_at l.v) l.i (count l.v - l.i)) ≡ total shoelace_term (edges l.v))
+
+abbrev pub decreases-loop-i : goal.decreases-loop-i
+decreases-loop-i l = count l.v - l.i

@@ -1,0 +1,13 @@
+-- `boxes::put_tested` meets its contract. Assumes nothing.
+use native.Mathlib.Omega.{arith}
+use Prim.Native.Nat.{suc, ◌+◌, ◌*◌}
+use mathlib.Core.Path.{◌≡◌}
+use native.Mathlib.Numerals.{add-one}
+use Rattle.boxes.proofs.put_tested.Goals as goal
+
+pub returns : goal.returns
+returns c =
+    let k = 4 * c.args.i in
+    let two : k + 2 ≡ suc (suc k) = omega arith in
+    let three : k + 3 ≡ suc (suc (suc k)) = omega arith in
+    rw (c.put_number-4.ensures, c.put_number-3.ensures, c.put_number-2.ensures, c.put_number.ensures, add-one, two, three)

@@ -1,0 +1,6 @@
+-- `clip::halves::place` meets its contract. Assumes nothing.
+use borrow.Author.Rules.{rules}
+use Rattle.clip.proofs.halves.place.Goals as goal
+
+pub returns-then-second : goal.returns-then-second
+returns-then-second c = rw c.if-second.true

@@ -1,0 +1,7 @@
+-- `clip::scan::marks_at` meets its contract. Assumes nothing.
+use Rattle.clip.proofs.FirstPassLaws.{marks_of_column}
+use borrow.Author.Rules.{rules}
+use Rattle.clip.proofs.scan.marks_at.Goals as goal
+
+pub returns : goal.returns
+returns c = let a = c.args in rw c.between.ensures (marks_of_column a.s a.w.now a.o _ c.column-k.ensures.0)

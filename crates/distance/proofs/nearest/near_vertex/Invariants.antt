@@ -1,0 +1,12 @@
+-- `distance::nearest::near_vertex` meets its contract. Assumes nothing.
+use mathlib.Core.Logic.{⊎_elim}
+use Prim.Native.Nat.{◌-◌, ◌<◌}
+use borrow.Author.Rules.{rules}
+use Rattle.boundary.specs.Outline.{count}
+use Rattle.distance.proofs.nearest.near_vertex.Given as goal
+
+abbrev pub invariant-loop-i : goal.invariant-loop-i
+invariant-loop-i l = l.k < count l.v
+
+abbrev pub decreases-loop-i : goal.decreases-loop-i
+decreases-loop-i l = count l.v - l.i

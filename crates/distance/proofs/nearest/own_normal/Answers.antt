@@ -1,0 +1,8 @@
+-- `distance::nearest::own_normal` meets its contract. Assumes nothing.
+use borrow.Author.Rules.{rules}
+use Rattle.distance.specs.Piece.{piece_normal}
+use Rattle.distance.proofs.nearest.own_normal.Goals as goal
+
+pub returns : goal.returns
+unfolding piece_normal
+returns c = c.normal.ensures

@@ -1,0 +1,23 @@
+-- `fill::cell::sum_own` meets its contract: the sum so far and the edges that are left give the whole. Assumes nothing.
+use mathlib.Core.Path.{◌≡◌, sym, ap, ◌∙◌}
+use Prim.Native.Nat.{◌-◌, ◌<◌}
+use native.Mathlib.Nat.{sub-zero}
+use lib.Ieee.{Float, binary64, add, of_bits}
+use Rattle.boundary.specs.declared.Edge.{Edge}
+use Rattle.boundary.specs.Outline.{count, vertex_at, edge_at, edges}
+use Rattle.boundary.proofs.OutlineLaws.{next_edge, last_edge}
+use Rattle.lists.specs.Lists.{run, fold, total}
+use Rattle.lists.proofs.FoldLaws.{fold_run_next, fold_run_end}
+use Rattle.fill.specs.Fill.{xdy_of}
+use borrow.Author.Rules.{rules}
+use Rattle.fill.proofs.cell.sum_own.Given as goal
+
+abbrev summed : Float → Edge → Float
+summed s e = add binary64 s (xdy_of e)
+
+-- edge i starts at a
+abbrev pub invariant-loop-i : goal.invariant-loop-i
+invariant-loop-i l = (l.i < count l.v) × (l.a ≡ vertex_at l.v l.i) × (fold summed l.area (run (edge_at l.v) l.i (count l.v - l.i)) ≡ total xdy_of (edges l.v))
+
+abbrev pub decreases-loop-i : goal.decreases-loop-i
+decreases-loop-i l = count l.v - l.i

@@ -1,0 +1,16 @@
+-- `fill::lines::outside_end` meets its contract: the vertices from i up to j are outside. Assumes nothing.
+use mathlib.Core.Path.{◌≡◌, sym, ◌∙◌}
+use mathlib.Core.Bool.{false}
+use Prim.Native.Nat.{ℕ, ◌-◌, ◌≤◌, ◌<◌}
+use native.Mathlib.Omega.{arith}
+use Rattle.boundary.specs.Outline.{count, vertex_at}
+use Rattle.clip.specs.Clip.{in_half_plane}
+use borrow.Author.Rules.{rules}
+use Rattle.fill.proofs.ChordLaws.{up_to_itself, up_to_next}
+use Rattle.fill.proofs.lines.outside_end.Given as goal
+
+abbrev pub invariant-loop-j : goal.invariant-loop-j
+invariant-loop-j l = (l.i ≤ l.j) × (l.j < count l.v) × ((k : ℕ) → l.i ≤ k → k ≤ l.j → in_half_plane l.s (vertex_at l.v k) ≡ false)
+
+abbrev pub decreases-loop-j : goal.decreases-loop-j
+decreases-loop-j l = count l.v - l.j

@@ -1,0 +1,32 @@
+-- `geometry::polygon::write` meets its contract: the points so far stand at the front, and the places past them are as they were. Assumes nothing.
+use mathlib.Core.Path.{◌≡◌, refl}
+use mathlib.Core.List.{◌++◌}
+use Prim.Native.Nat.{◌≤◌, ◌-◌, ◌*◌}
+use native.Mathlib.Nat.{le_antisymm}
+use borrow.Author.Rules.{rules}
+use lib.ListN.{length, drop, length-set}
+use Rattle.lists.specs.Lists.{run}
+use Rattle.boundary.specs.Outline.{count}
+use Rattle.geometry.specs.Making.{coordinates_of}
+use Rattle.geometry.proofs.WriteLaws.{point_at, write_more, write_all}
+use Rattle.geometry.proofs.polygon.write.Goals as goal
+
+pub loop-i-init : goal.loop-i-init
+unfolding coordinates_of run
+loop-i-init c = (search rules, refl, search rules)
+
+pub bounds-out-i-in-loop-i : goal.bounds-out-i-in-loop-i
+bounds-out-i-in-loop-i c = simp length-set (search rules)
+
+pub loop-i-preserved : goal.loop-i-preserved
+loop-i-preserved c =
+    let a = c.args in (
+      search rules,
+      rw (c.vertex_at-p.ensures, c.source.ensures.0) (write_more (point_at a.v.now a.back) _ _ _ c.loop-i.invariant.1 (search rules)),
+      simp length-set (search rules),
+    )
+
+pub returns : goal.returns
+returns c =
+    let n = le_antisymm c.loop-i.invariant.0 c.loop-i-test.false in
+    rw (write_all, ← n) c.loop-i.invariant.1

@@ -1,0 +1,11 @@
+-- `sorts::copied` meets its contract. Assumes nothing.
+use Rattle.sorts.proofs.Lists.{Copying}
+use Prim.Native.Nat.{◌-◌}
+use lib.ListN.{length}
+use Rattle.sorts.proofs.copied.Given as goal
+
+abbrev pub invariant-loop-i : goal.invariant-loop-i
+invariant-loop-i l = Copying l.s l.initial.t l.t l.i
+
+abbrev pub decreases-loop-i : goal.decreases-loop-i
+decreases-loop-i l = length l.s - l.i

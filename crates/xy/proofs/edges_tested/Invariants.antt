@@ -1,0 +1,40 @@
+-- `xy::edges_tested` meets its contract: what was summed so far and the edges that are left give both answers. Assumes nothing.
+use mathlib.Core.Path.{◌≡◌, sym, ap, ◌∙◌}
+use mathlib.Core.Bool.{Bool, false, ◌||◌}
+use mathlib.Core.List.{List}
+use Prim.Native.Nat.{ℕ, ◌+◌, ◌-◌, ◌≤◌, ◌<◌}
+use native.Mathlib.Nat.{sub-zero}
+use native.Mathlib.Omega.{arith}
+use borrow.Author.Rules.{rules}
+use borrow.Author.Tests.{eq-eqb, ne_eqb}
+use lib.Ieee.{Float, binary64, add, of_bits}
+use Rattle.boundary.specs.declared.Point.{Point}
+use Rattle.boundary.specs.declared.Edge.{Edge}
+use Rattle.lists.specs.Lists.{run, fold, any, total}
+use Rattle.boundary.specs.Outline.{same_point}
+use Rattle.lists.proofs.FoldLaws.{fold_run_next, fold_run_end, fold_found}
+use Rattle.accept.specs.Area.{shoelace_term, area_of}
+use Rattle.accept.specs.Verdicts.{edges_verdict}
+use Rattle.xy.specs.Outlines.{vertex_from}
+use Rattle.xy.proofs.MakingLaws.{edge_from, edges_from}
+use Rattle.xy.proofs.edges_tested.Given as goal
+
+abbrev joins : Edge → Bool
+joins e = same_point e.a e.b
+
+abbrev found : Bool → Edge → Bool
+found b e = b || joins e
+
+abbrev summed : Float → Edge → Float
+summed s e = add binary64 s (shoelace_term e)
+
+-- edge i starts at a, and no edge before it joins equal vertices
+abbrev pub invariant-loop-i : goal.invariant-loop-i
+invariant-loop-i l =
+    (l.i < l.n)
+    × (l.a ≡ vertex_from l.s l.from l.i)
+    × (fold found false (run (edge_from l.s l.from l.n) l.i (l.n - l.i)) ≡ any joins (run (edge_from l.s l.from l.n) 0 l.n))
+    × (fold summed l.sum (run (edge_from l.s l.from l.n) l.i (l.n - l.i)) ≡ total shoelace_term (run (edge_from l.s l.from l.n) 0 l.n))
+
+abbrev pub decreases-loop-i : goal.decreases-loop-i
+decreases-loop-i l = l.n - l.i
