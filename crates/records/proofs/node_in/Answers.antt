@@ -1,0 +1,8 @@
+-- `records::node_in` meets its contract. Assumes nothing.
+use Rattle.records.specs.Records.{node_in}
+use borrow.Author.Rules.{rules}
+use Rattle.records.proofs.node_in.Goals as goal
+
+pub returns : goal.returns
+unfolding node_in
+returns c = rw (c.at-2.ensures, c.at.ensures, c.box_at-b.ensures)

@@ -1,0 +1,19 @@
+-- `set::outlines::put_starts` meets its contract: the starts so far stand at the front. Assumes nothing.
+use mathlib.Core.Path.{◌≡◌, refl, ap, ◌∙◌}
+use Prim.Native.Nat.{◌-◌, ◌≤◌}
+use native.Mathlib.Nat.{le_antisymm}
+use native.Mathlib.Omega.{arith}
+use lib.ListN.{length}
+use lib.Seq.{sets, length-sets}
+use Rattle.lists.proofs.StoreLaws.{sets_more}
+use Rattle.lists.specs.Lists.{run}
+use Rattle.set.specs.Set.{start_of}
+use Rattle.set.proofs.SetLaws.{start_next, start_within}
+use borrow.Author.Rules.{rules}
+use Rattle.set.proofs.outlines.put_starts.Given as goal
+
+abbrev pub invariant-loop-k : goal.invariant-loop-k
+invariant-loop-k l = (l.k ≤ length l.counts) × (l.sum ≡ start_of l.counts l.k) × (l.starts ≡ sets l.initial.starts 0 (run (start_of l.counts) 0 l.k))
+
+abbrev pub decreases-loop-k : goal.decreases-loop-k
+decreases-loop-k l = length l.counts - l.k

@@ -1,0 +1,22 @@
+-- `set::refusals::set_tested` meets its contract. Assumes nothing.
+use borrow.Author.Rules.{rules}
+use mathlib.Core.Path.{sym, ◌∙◌}
+use Rattle.accept.specs.Refusals.{◌refusing◌when◌}
+use Rattle.set.specs.Tests.{outlines_tested, set_tested}
+use Rattle.set.proofs.OnePassLaws.{least_tests}
+use Rattle.set.proofs.SetLaws.{lists_fit, fit_within}
+use Rattle.set.proofs.refusals.set_tested.Goals as goal
+
+pub least_failed-requires : goal.least_failed-requires
+least_failed-requires c =
+    let a = c.args in
+    fit_within a.v.now a.counts.now (lists_fit a.v.now a.counts.now (sym c.lists_tested-t.ensures ∙ c.in-Passed.is))
+
+pub returns-in-Passed : goal.returns-in-Passed
+unfolding set_tested
+returns-in-Passed c =
+    rw (← c.lists_tested-t.ensures, c.in-Passed.is, c.test_at.ensures, c.least_failed.ensures) (least_tests _)
+
+pub returns-in-Failed : goal.returns-in-Failed
+unfolding set_tested outlines_tested ◌refusing◌when◌
+returns-in-Failed c = rw (← c.lists_tested-t.ensures, c.in-Failed.is)
