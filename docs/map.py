@@ -4,8 +4,8 @@
     docs/map.py            writes both
     docs/map.py --check    writes nothing, and fails where they are not what it would write
 
-For every export the map names the definitions that its promise cites and those that they are made of, the
-functions that compute it, the proof of each, and the theorems about the definitions; for every test the line of
+For every export to C (crate viskunor_c) the map names the definitions that its promise cites and those that they
+are made of, the functions that compute it, the proof of each, and the theorems about the definitions; for every test the line of
 the definition that says it, the functions that make it, and their proofs. It reads text only: names are followed
 through `use` lines.
 """
@@ -17,7 +17,9 @@ import sys
 ROOT = pathlib.Path(__file__).resolve().parent.parent
 NAME = r"[^\s(){};,.\[\]⌜⌝]+"
 DEEP = 3                       # how many steps below a promise definitions are named
-GENERAL = {'countFields', 'measureFields', 'boxFields', 'distanceFields', 'buffer', 'cellOf', 'distanceOf'}
+CALLS = 3                      # how many calls below an export functions are named: viskunor's own, and two more
+GENERAL = {'count_fields', 'measure_fields', 'box_fields', 'distance_fields', 'buffer', 'cell_of', 'distance_of'}
+PROOFS = ['Proof.antt', 'Answers.antt', 'Invariants.antt']    # what is written of a function's proof; the first is linked
 THEOREM_PAGES = ['README.md', 'docs/DEMAND-1.md', 'docs/DEMAND-2.md']
 
 
@@ -42,15 +44,15 @@ def crate_lines():
     for line in (ROOT / 'crates.txt').read_text().split('\n'):
         name, colon, rest = line.split('#')[0].partition(':')
         if colon:
-            deps[name.strip()] = rest.split()
+            deps[name.split()[0]] = rest.split()      # 'staticlib' may follow the name
     return deps
 
 
 def imports_of(text):
     """name -> the module path that a `use` line brings it from."""
     found = {}
-    for path, names in re.findall(r'use (Rattle·[^\s{};]+?)\.\{([^}]*)\}', text):
-        m = re.match(r'Rattle·(\w+?)(?:·\w+)?\.(specs|proofs)\.(.*)$', path)
+    for path, names in re.findall(r'use (Rattle\.[^\s{};]+?)\.\{([^}]*)\}', text):
+        m = re.match(r'Rattle\.(\w+)\.(specs|proofs)\.(.*)$', path)
         if m:
             for name in names.split(','):
                 found[name.strip().strip('«»')] = m.groups()
@@ -101,7 +103,7 @@ def read_code(crate, path):
         at, start = closing(text, text.index('(', m.end())), None
         while True:
             at = text.index('{', at)
-            clause = re.search(r'\b(requires|ensures|measure|decreases)\s*$', text[:at])
+            clause = re.search(r'\b(requires|ensures)(?: +\w+)?\s*$', text[:at])
             if not clause:
                 break
             start = start or clause.start()
@@ -112,8 +114,17 @@ def read_code(crate, path):
         owner = re.findall(r'^impl (\w+)', text[:m.start()], re.M) if m[1] else []
         item.owner = owner[-1] if owner else ''
         items.append(item)
-    paths = {m.split('::')[-1]: m.split('::') for m in re.findall(r'^\s*(?:pub )?use ([\w:]+);', text, re.M)}
-    return items, imports_of(text), paths
+    return items, imports_of(text), paths_of(text)
+
+
+def paths_of(text):
+    """name -> the path that a `use` line of code brings it from."""
+    found = {}
+    for head, group in re.findall(r'^\s*(?:pub )?use ([\w:]+?)(?:::\{([^}]*)\})?;', text, re.M):
+        for name in group.split(',') if group else ['']:
+            parts = [p for p in (head + '::' + name.strip()).split('::') if p and p != 'self']
+            found[parts[-1]] = parts
+    return found
 
 
 class Sources:
@@ -127,7 +138,7 @@ class Sources:
             for part in ('specs', 'proofs'):
                 base = ROOT / 'crates' / crate / part
                 for path in sorted(base.rglob('*.antt')):
-                    if path.name == 'Proof.antt':
+                    if part == 'proofs' and path.name in PROOFS and path.parent != base:
                         continue
                     items, imports = read_antt(crate, path)
                     module = '.'.join(path.relative_to(base).with_suffix('').parts)
@@ -145,8 +156,8 @@ class Sources:
                         self.methods[item.name] = item
                     own = ROOT / 'crates' / crate / 'proofs'
                     for folder in [own.joinpath(*module), own]:
-                        for proof in sorted(folder.glob('*/Proof.antt')):
-                            if item.name in proof.parent.name.split('+') or proof.parent.name == item.name:
+                        for proof in [p for name in PROOFS for p in sorted(folder.glob('*/' + name))]:
+                            if item.name in proof.parent.name.split('+'):
                                 item.proof = item.proof or proof.relative_to(ROOT)
                 files.append((crate, 'src', module, items, imports, paths))
         for crate, part, module, items, imports, *paths in files:
@@ -230,7 +241,7 @@ def export_part(item, theorems, own):
     """The lines of one export."""
     promise = cited(item)
     made = [d for d in reached(promise, cited, DEEP) if d not in promise]
-    code = [item] + reached([item], lambda f: f.calls, 2)
+    code = [item] + reached([item], lambda f: f.calls, CALLS)
     meaning = [t for t in theorems if own & {u for u in speaks_of(t) if u.kind == 'def' and u.name not in GENERAL}]
     lines = [f'### {item.name}', '']
     lines.append(f'- **Promise**, at {item.link()}: {by_file(promise)}.')
@@ -318,8 +329,8 @@ def page(sources):
     lines = ['# Map', '',
              'From each call to its promise, its code and its proof; written by `docs/map.py` from the sources. A promise is the',
              "`ensures` at the export; the definitions that it cites stand in `specs/` of the crates, the functions in `src/`, the proofs in",
-             '`proofs/`. Functions are named to two calls below the export, definitions to three steps below the promise. A function whose',
-             'proof the prover finds by itself has no file.', '',
+             '`proofs/`. Functions are named to three calls below the export, the first of which is that of the crate `viskunor`, definitions to',
+             'three steps below the promise. A function whose proof the prover finds by itself has no file.', '',
              '![The crates by layer](crates.svg)', '',
              '## Tests', '']
     lines += tests_part(sources) + ['', '## Calls', '']
