@@ -5,7 +5,7 @@ use Prim.Native.Nat.{◌^◌, ◌≤◌, ℕ, ◌+◌, ◌*◌, ◌<◌}
 use native.Mathlib.Nat.{le_trans, add-le-add}
 use lib.Dec.{T, lit≤, eqb}
 use lib.IntN.{ℤ, pos, neg_ℤ, nat_abs, ◌-ℤ◌, ◌*ℤ◌}
-use lib.Ieee.{Float, binary64, add, sub, neg, lt, le, is_nan, fits, nan}
+use lib.Ieee.{Float, binary64, add, sub, neg, le, is_nan, fits, nan}
 use lib.Ieee.Fits.{and_l, and_r, and_i, add-fits, sub-fits}
 use lib.Ieee.Scale.{finite}
 use Rattle.algebra.specs.Order.{Within, within_nat_abs, nat_abs_neg, nat_abs_add, le_of_within}

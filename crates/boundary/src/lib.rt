@@ -1,4 +1,6 @@
 // An outline's points and edges, and what boundary.rs works out from them.
+#![tactic(auto)]
+
 pub mod hulls;
 pub mod line;
 

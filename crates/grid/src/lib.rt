@@ -1,1 +1,3 @@
+#![tactic(auto)]
+
 // Laws only: whole-number geometry, and the grid.

@@ -1,4 +1,6 @@
 // Lent lists: read and written with the bounds test inside, and cleared.
+#![tactic(auto)]
+
 ghost use Rattle.std.specs.Prelude.{false, ◌≡◌, ◌≤◌, pos, length, get_or, set};
 ghost use Rattle.std.specs.Float.{nan, fin};
 ghost use Rattle.lists.specs.Lists.{at_front, zeros};

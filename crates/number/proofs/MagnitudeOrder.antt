@@ -1,5 +1,5 @@
 -- The magnitude, the minimum, the maximum, the clamp and the sign in the order of floats. Assumes nothing.
-use Rattle.std.proofs.Common.{◌≡◌, ℕ, ◌-◌, ◌*◌, Bool, true, false, cond, not, ◌&&◌, ◌||◌, T, ℤ, pos, sym, refl, subst, arith, ltb-true}
+use Rattle.std.proofs.Common.{◌≡◌, ℕ, ◌*◌, Bool, true, false, cond, not, ◌&&◌, ◌||◌, T, ℤ, pos, sym, refl, subst, arith, ltb-true}
 use lib.Ieee.{Float, nan, inf, fin, up, down, lt, eq, le, neg, is_nan}
 use lib.Ieee.Scale.{finite}
 use lib.Signed.{lt_z}

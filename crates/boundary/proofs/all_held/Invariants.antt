@@ -1,8 +1,5 @@
 -- `boundary::all_held` meets its contract: the numbers read so far are held. Assumes nothing.
 use Prim.Native.Nat.{ℕ, ◌-◌, ◌≤◌, ◌<◌}
-use native.Mathlib.Omega.{arith}
-use Rattle.lists.proofs.RunLaws.{one_more}
-use borrow.Author.Rules.{rules}
 use lib.Dec.{T}
 use lib.ListN.{length, get_or}
 use lib.Ieee.{nan, binary64, fits}

@@ -1,5 +1,4 @@
 -- `boundary::edge_at` meets its contract. Assumes nothing.
-use borrow.Author.Rules.{rules}
 use Rattle.boundary.proofs.edge_at.Goals as goal
 
 pub returns : goal.returns

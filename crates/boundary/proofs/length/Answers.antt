@@ -1,12 +1,11 @@
 -- `boundary::length` meets its contract: the sum so far and the edges that are left give the length. Assumes nothing.
-use mathlib.Core.Path.{◌≡◌, sym, ◌∙◌}
-use Prim.Native.Nat.{◌≤◌, ◌-◌}
+use mathlib.Core.Path.{sym, ◌∙◌}
 use native.Mathlib.Nat.{sub-zero}
 use borrow.Author.Rules.{rules}
 use lib.Ieee.{Float, binary64, add, of_bits}
 use Rattle.boundary.specs.declared.Edge.{Edge}
-use Rattle.lists.specs.Lists.{run, fold, total}
-use Rattle.boundary.specs.Outline.{count, edge_at, edges}
+use Rattle.lists.specs.Lists.{total}
+use Rattle.boundary.specs.Outline.{edges}
 use Rattle.boundary.specs.Length.{edge_length, length_of}
 use Rattle.lists.proofs.FoldLaws.{fold_run_next, fold_run_end}
 use Rattle.boundary.proofs.length.Goals as goal

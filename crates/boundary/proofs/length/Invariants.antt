@@ -1,14 +1,11 @@
 -- `boundary::length` meets its contract: the sum so far and the edges that are left give the length. Assumes nothing.
-use mathlib.Core.Path.{◌≡◌, sym, ◌∙◌}
+use mathlib.Core.Path.{◌≡◌}
 use Prim.Native.Nat.{◌≤◌, ◌-◌}
-use native.Mathlib.Nat.{sub-zero}
-use borrow.Author.Rules.{rules}
-use lib.Ieee.{Float, binary64, add, of_bits}
+use lib.Ieee.{Float, binary64, add}
 use Rattle.boundary.specs.declared.Edge.{Edge}
-use Rattle.lists.specs.Lists.{run, fold, total}
+use Rattle.lists.specs.Lists.{run, fold}
 use Rattle.boundary.specs.Outline.{count, edge_at, edges}
 use Rattle.boundary.specs.Length.{edge_length, length_of}
-use Rattle.lists.proofs.FoldLaws.{fold_run_next, fold_run_end}
 use Rattle.boundary.proofs.length.Given as goal
 
 abbrev step : Float → Edge → Float

@@ -1,5 +1,4 @@
 -- `boundary::line_length` meets its contract. Assumes nothing.
-use borrow.Author.Rules.{rules}
 use Rattle.boundary.specs.Length.{edge_length}
 use Rattle.boundary.proofs.line_length.Goals as goal
 

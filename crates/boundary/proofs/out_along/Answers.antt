@@ -1,5 +1,4 @@
 -- `boundary::out_along` meets its contract. Assumes nothing.
-use borrow.Author.Rules.{rules}
 use lib.Ieee.{of_bits}
 use Rattle.boundary.specs.Boxes.{out_along}
 use Rattle.boundary.proofs.out_along.Goals as goal

@@ -1,10 +1,9 @@
 -- `lists::clear_numbers` meets its contract: the places so far hold zeros. Assumes nothing.
 use Prim.Native.Nat.{◌-◌}
-use borrow.Author.Rules.{rules}
 use mathlib.Core.Bool.{false}
 use lib.IntN.{pos}
-use lib.Ieee.{Float, fin, of_bits}
-use Rattle.lists.proofs.FrontLaws.{Clearing, clearing_none, clearing_more, clearing_all}
+use lib.Ieee.{Float, fin}
+use Rattle.lists.proofs.FrontLaws.{Clearing}
 use Rattle.lists.proofs.clear_numbers.Given as goal
 
 abbrev zeroᶠ : Float

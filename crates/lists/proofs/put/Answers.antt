@@ -1,7 +1,6 @@
 -- `lists::put` meets its contract. Assumes nothing.
 use mathlib.Core.Path.{sym}
 use lib.Seq.{set_out}
-use borrow.Author.Rules.{rules}
 use Rattle.lists.proofs.put.Goals as goal
 
 pub returns-else-i-s : goal.returns-else-i-s

@@ -1,7 +1,6 @@
 -- `lists::put_number` meets its contract. Assumes nothing.
 use lib.Seq.{set_out}
 use mathlib.Core.Path.{sym}
-use borrow.Author.Rules.{rules}
 use Rattle.lists.proofs.put_number.Goals as goal
 
 pub returns-else-i-v : goal.returns-else-i-v

@@ -1,6 +1,5 @@
 -- `boundary::hulls::around` meets its contract. Assumes nothing.
 use Rattle.boundary.specs.Boxes.{hull}
-use borrow.Author.Rules.{rules}
 use Rattle.boundary.proofs.hulls.around.Goals as goal
 
 pub returns : goal.returns

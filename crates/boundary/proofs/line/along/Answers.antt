@@ -1,5 +1,4 @@
 -- `boundary::line::along` meets its contract. Assumes nothing.
-use borrow.Author.Rules.{rules}
 use lib.Ieee.{of_bits}
 use Rattle.boundary.specs.Line.{along_of}
 use Rattle.boundary.proofs.line.along.Goals as goal

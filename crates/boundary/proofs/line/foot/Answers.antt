@@ -1,7 +1,6 @@
 -- `boundary::line::foot` meets its contract: its branches are the choices of `param_of` and `along_of`. Assumes nothing.
 use mathlib.Core.Path.{◌≡◌, sym, ◌∙◌}
 use mathlib.Core.Bool.{true, false}
-use borrow.Author.Rules.{rules}
 use lib.Ieee.{Float, binary64, of_bits, add, sub, mul, div, lt, eq}
 use Rattle.number.specs.Exact.{zeroᶠ, one}
 use Rattle.number.specs.Signs.{clamp_of}
@@ -67,9 +66,9 @@ returns c =
     let s = c.args in
     c.ahead-2.ensures
     ∙ elim c.if-l2.branch [
-        then-l2+else-clamps_to_one+else-clamps_to_itself w ↦
-            foot_short s.e s.p (rw (c.squares-l2.ensures, c.way-w.ensures) at w.if-l2.true)
-            (rw (c.squares-l2.ensures, c.way-w.ensures) at (sym w.clamps_to_one.ensures ∙ w.if-clamps_to_one.false)) zeroᶠ
-            (rw (c.squares-l2.ensures, c.way-w.ensures) at (w.clamps_to_itself.ensures.1 w.if-clamps_to_itself.false))
+      | then-l2+else-clamps_to_one+else-clamps_to_itself w ↦
+          foot_short s.e s.p (rw (c.squares-l2.ensures, c.way-w.ensures) at w.if-l2.true)
+          (rw (c.squares-l2.ensures, c.way-w.ensures) at (sym w.clamps_to_one.ensures ∙ w.if-clamps_to_one.false)) zeroᶠ
+          (rw (c.squares-l2.ensures, c.way-w.ensures) at (w.clamps_to_itself.ensures.1 w.if-clamps_to_itself.false))
       | else-l2 w ↦ foot_alone s.e s.p (rw (c.squares-l2.ensures, c.way-w.ensures) at w.if-l2.false)
     ]

@@ -1,5 +1,4 @@
 -- `boundary::line::line_nearest` meets its contract. Assumes nothing.
-use borrow.Author.Rules.{rules}
 use Rattle.boundary.specs.Line.{line_near}
 use Rattle.boundary.proofs.line.line_nearest.Goals as goal
 

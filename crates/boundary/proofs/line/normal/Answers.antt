@@ -1,5 +1,4 @@
 -- `boundary::line::normal` meets its contract. Assumes nothing.
-use borrow.Author.Rules.{rules}
 use lib.Ieee.{of_bits}
 use Rattle.boundary.specs.Line.{normal_of}
 use Rattle.boundary.proofs.line.normal.Goals as goal

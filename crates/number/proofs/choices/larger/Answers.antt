@@ -1,6 +1,6 @@
 -- `number::choices::larger` meets its contract. Assumes nothing.
 use Rattle.number.proofs.ChoiceLaws.{magnitude, larger_is, larger_from}
-use Rattle.std.proofs.Common.{T, sym, subst, rules}
+use Rattle.std.proofs.Common.{T, sym, subst}
 use lib.Ieee.{of_bits}
 use Rattle.number.proofs.choices.larger.Goals as goal
 

@@ -1,5 +1,5 @@
 -- `number::root::bisect` meets its contract: the root stays between the two ends, and in the end they are neighbours. Assumes nothing.
-use Rattle.std.proofs.Common.{◌≡◌, ℕ, ◌+◌, ◌-◌, ◌*◌, ◌^◌, ◌<◌, ◌≤◌, sym, ap, ◌∙◌, arith, ltb-false, ltb-true}
+use Rattle.std.proofs.Common.{◌≡◌, ℕ, ◌+◌, ◌*◌, sym, ap, ◌∙◌, arith, ltb-false, ltb-true}
 use Rattle.number.proofs.root.bisect.Goals as goal
 
 pub loop-hi-preserved-then-is_low : goal.loop-hi-preserved-then-is_low

@@ -1,5 +1,4 @@
 -- `number::root::clear_limit` meets its contract. Assumes nothing.
-use Rattle.std.proofs.Common.{rules}
 use lib.Ieee.{of_bits}
 use Rattle.number.proofs.root.clear_limit.Goals as goal
 

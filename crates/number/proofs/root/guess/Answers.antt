@@ -1,5 +1,5 @@
 -- `number::root::guess` meets its contract: no bit pattern that is read is a NaN's, and no NaN is written. Assumes nothing.
-use Rattle.std.proofs.Common.{arith, rules}
+use Rattle.std.proofs.Common.{arith}
 use lib.Ieee.{binary64}
 use lib.Ieee.Fits.{mul-fits}
 use Rattle.number.proofs.Tests.{lt_not_nan, bits_not_nan, trimmed_not_nan}

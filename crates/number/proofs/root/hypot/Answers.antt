@@ -1,6 +1,6 @@
 -- `number::root::hypot` meets its contract: along an axis by the law of one zero argument, and otherwise by its text. Assumes nothing.
-use Rattle.std.proofs.Common.{T, sym, ◌∙◌, subst, rules}
-use lib.Ieee.{binary64, fits, of_bits}
+use Rattle.std.proofs.Common.{T, sym, ◌∙◌, subst}
+use lib.Ieee.{of_bits}
 use Rattle.number.specs.Hypot.{hypot_of}
 use Rattle.number.proofs.HypotLaws.{hypot_swap}
 use Rattle.number.proofs.HypotAxis.{hypot_tested}

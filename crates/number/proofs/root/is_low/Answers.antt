@@ -1,5 +1,5 @@
 -- `number::root::is_low` meets its contract: the comparison of the upper parts is that of the whole numbers. Assumes nothing.
-use Rattle.std.proofs.Common.{◌≡◌, ℕ, ◌+◌, ◌-◌, ◌*◌, ◌/◌, ◌^◌, ◌<◌, Bool, true, false, ltb, sym, refl, arith, rules, ltb-false, ltb-true, le-ltb, lt-ltb}
+use Rattle.std.proofs.Common.{◌≡◌, ℕ, ◌+◌, ◌-◌, ◌*◌, ◌/◌, ◌^◌, ◌<◌, Bool, true, false, ltb, sym, refl, arith, ltb-false, ltb-true, le-ltb, lt-ltb}
 use Rattle.number.proofs.root.is_low.Goals as goal
 
 law : (c q hi lo x : ℕ) → c < 2 ^ 54 → q < 2 ^ 53 → hi * 2 ^ 52 + lo ≡ x → lo < 2 ^ 52 → ltb (hi + (lo + (2 ^ 53 - q)) / 2 ^ 52) (c + 2) ≡ ltb x (c * 2 ^ 52 + q)

@@ -1,5 +1,4 @@
 -- `number::root::nearest_root` meets its contract: what it returns was checked by `is_root`, or is `bisect`'s. Assumes nothing.
-use Rattle.std.proofs.Common.{rules}
 use Rattle.number.proofs.root.nearest_root.Goals as goal
 
 pub returns-then-is_root : goal.returns-then-is_root

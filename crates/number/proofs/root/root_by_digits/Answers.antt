@@ -1,5 +1,5 @@
 -- `number::root::root_by_digits` meets its contract: the bits that it gives are those of the root, rounded. Assumes nothing.
-use Rattle.std.proofs.Common.{◌%◌, arith, rules}
+use Rattle.std.proofs.Common.{◌%◌, arith}
 use Rattle.number.proofs.Tests.{bits_not_nan}
 use Rattle.number.proofs.NearRoot.{near_lt, root_is, parity_ge, digits_le}
 use Rattle.number.proofs.root.root_by_digits.Goals as goal

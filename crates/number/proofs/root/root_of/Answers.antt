@@ -1,5 +1,5 @@
 -- `number::root::root_of` meets its contract: where the guess passes the check, its bits are those of the root, rounded. Assumes nothing.
-use Rattle.std.proofs.Common.{◌≡◌, ◌+◌, ◌*◌, ◌/◌, ◌%◌, ◌^◌, ap, ◌∙◌, arith, rules}
+use Rattle.std.proofs.Common.{◌≡◌, ◌+◌, ◌*◌, ◌/◌, ◌%◌, ◌^◌, ap, ◌∙◌, arith}
 use lib.Ieee.{binary64, to_bits, of_bits}
 use Rattle.number.proofs.Tests.{lt_not_nan, bits_not_nan}
 use Rattle.number.proofs.NearRoot.{root_is, digits_le}

@@ -1,5 +1,5 @@
 -- `number::root::sqrt` meets its contract: each branch is a case of `sqrt_of`. Assumes nothing.
-use Rattle.std.proofs.Common.{◌≡◌, ◌/◌, ◌%◌, ◌^◌, true, false, T, sym, ap, ◌∙◌, subst, arith, rules}
+use Rattle.std.proofs.Common.{◌≡◌, ◌/◌, ◌%◌, ◌^◌, true, false, T, sym, ap, ◌∙◌, subst, arith}
 use lib.Ieee.{Float, inf, lt, binary64, fits, of_bits, to_bits, div}
 use Rattle.number.specs.Exact.{zeroᶠ}
 use Rattle.number.specs.Root.{root_of}

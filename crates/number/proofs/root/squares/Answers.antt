@@ -1,5 +1,4 @@
 -- `number::root::squares` meets its contract. Assumes nothing.
-use Rattle.std.proofs.Common.{rules}
 use lib.Ieee.{of_bits}
 use Rattle.number.proofs.root.squares.Goals as goal
 

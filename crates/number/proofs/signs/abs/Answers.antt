@@ -1,5 +1,4 @@
 -- `number::signs::abs` meets its contract. Assumes nothing.
-use Rattle.std.proofs.Common.{rules}
 use Rattle.number.proofs.SignLaws.{abs_negates}
 use Rattle.number.proofs.signs.abs.Goals as goal
 

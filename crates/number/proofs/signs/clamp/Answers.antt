@@ -1,5 +1,4 @@
 -- `number::signs::clamp` meets its contract. Assumes nothing.
-use Rattle.std.proofs.Common.{rules}
 use Rattle.number.specs.Signs.{clamp_of}
 use Rattle.number.proofs.signs.clamp.Goals as goal
 

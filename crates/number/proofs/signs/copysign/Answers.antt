@@ -1,5 +1,4 @@
 -- `number::signs::copysign` meets its contract. Assumes nothing.
-use Rattle.std.proofs.Common.{rules}
 use Rattle.number.specs.Signs.{copysign_of}
 use Rattle.number.proofs.SignLaws.{with_sign_lem}
 use Rattle.number.proofs.signs.copysign.Goals as goal

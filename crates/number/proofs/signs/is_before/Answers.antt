@@ -1,5 +1,4 @@
 -- `number::signs::is_before` meets its contract. Assumes nothing.
-use Rattle.std.proofs.Common.{rules}
 use Rattle.number.specs.Signs.{stands_before}
 use Rattle.number.proofs.signs.is_before.Goals as goal
 

@@ -1,5 +1,4 @@
 -- `number::signs::max` meets its contract. Assumes nothing.
-use Rattle.std.proofs.Common.{rules}
 use Rattle.number.specs.Signs.{max_of}
 use Rattle.number.proofs.signs.max.Goals as goal
 

@@ -1,5 +1,4 @@
 -- `number::signs::min` meets its contract. Assumes nothing.
-use Rattle.std.proofs.Common.{rules}
 use Rattle.number.specs.Signs.{min_of}
 use Rattle.number.proofs.signs.min.Goals as goal
 

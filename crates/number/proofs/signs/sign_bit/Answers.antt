@@ -1,5 +1,5 @@
 -- `number::signs::sign_bit` meets its contract. Assumes nothing.
-use Rattle.std.proofs.Common.{◌≡◌, Bool, false, not, T, sym, ◌∙◌, subst, rules}
+use Rattle.std.proofs.Common.{◌≡◌, Bool, false, not, T, sym, ◌∙◌, subst}
 use lib.Ieee.{Float, is_nan}
 use Rattle.number.proofs.SignLaws.{sign_of_bits, sign_of_nan}
 use Rattle.number.proofs.signs.sign_bit.Goals as goal
