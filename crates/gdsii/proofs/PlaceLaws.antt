@@ -14,13 +14,23 @@ use Rattle.accept.specs.declared.Test.TheVariants.{Passed, Failed}
 use Rattle.accept.specs.Refusals.{◌refusing◌when◌}
 use Rattle.accept.proofs.TestLaws.{refusing_passed}
 use Rattle.stream.specs.declared.Awaited.{Awaited}
-use Rattle.stream.specs.Bytes.{steps_in}
+use Rattle.stream.specs.Bytes.{pair_at, steps_in}
 use Rattle.stream.specs.Format.{UNITS, XY}
 use Rattle.stream.specs.Records.{record_size, record_data, after_record, astray, cut_short, misfit, other_unit}
-use Rattle.stream.proofs.OrderLaws.{units_sixteen, xy_multiple}
+use Rattle.stream.proofs.OrderLaws.{size_at, type_at, units_sixteen, xy_multiple}
 use Rattle.xy.specs.Outlines.{steps_from}
 use Rattle.gdsii.specs.Reading.{record_tested}
 use Rattle.gdsii.specs.Work.{AtRecord}
+
+-- the record that stands at a place, from the pairs of bytes read there
+pub read_at : {s : List ℕ} {at t n : ℕ} → at + 4 ≤ length s → (t ≡ pair_at s (at + 2)) × (t < 65536) → (n ≡ pair_at s at) × (n < 65536) → AtRecord s at t n
+read_at {s} {at} {t} {n} w a b =
+    record {
+      within = w;
+      type = a.0 ∙ type_at s at;
+      size = b.0 ∙ size_at s at;
+      short = b.1;
+    }
 
 -- the record is missing, cut short, or of a length below 4
 abbrev pub record_cut : List ℕ → ℕ → ℕ → Bool

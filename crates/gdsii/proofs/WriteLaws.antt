@@ -7,7 +7,7 @@ use native.Mathlib.Omega.{arith}
 use borrow.Author.Tests.{ltb-false}
 use lib.Dec.{eqb}
 use lib.IntN.{ℤ}
-use lib.ListN.{length, drop, get_or, set, length-drop, length-append}
+use lib.ListN.{length, drop, get_or, length-drop, length-append}
 use lib.Seq.{sets, length-sets, get_or-append_seam}
 use lib.Ieee.{Float}
 use Rattle.lists.specs.Lists.{at_front}

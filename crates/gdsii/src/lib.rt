@@ -1,4 +1,6 @@
 // Reading a GDSII stream: it is read twice, first to judge and measure it, then to write the set that it holds.
+#![tactic(auto)]
+
 ghost use Rattle.std.specs.Prelude.{◌≡◌, true, cond, ◌&&◌, ◌+◌, ◌*◌, ◌≤◌, eqb, length, drop, set};
 ghost use Rattle.stream.specs.Format.{UNITS};
 ghost use Rattle.stream.specs.Records.{other_unit};
@@ -165,7 +167,7 @@ fn write_outline(
 ) -> Size
     requires { Joins s.now from n done signs.now (set_lent vertices.old counts.old) }
     ensures value { result ≡ size_with done (steps_from s.now from n) }
-    ensures counts_after { set_lent vertices.new counts.new ≡ written_at done (steps_from s.now from n) (set_lent vertices.old counts.old) }
+    ensures set_after { set_lent vertices.new counts.new ≡ written_at done (steps_from s.now from n) (set_lent vertices.old counts.old) }
 {
     let at = 2 * (done.vertices as usize);
     let back = lists::at(signs, done.outlines as usize) == 1;
