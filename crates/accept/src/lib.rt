@@ -1,4 +1,6 @@
 // Which inputs are accepted: the refusals, the tests of outlines, points and boxes, and what a call answers.
+#![tactic(auto)]
+
 pub mod answers;
 pub mod refusals;
 

@@ -14,7 +14,7 @@ use Rattle.algebra.specs.Quote.{quote}
 use Rattle.algebra.specs.Lin as L
 use Rattle.algebra.specs.Lin.{le_from, lt_from, false_from}
 use Rattle.number.proofs.ChoiceLaws.{never_true}
-use Rattle.algebra.specs.Order.{◌≦◌, ◌≺◌, Within, ≤ℤ-or-<ℤ, <ℤ→≤ℤ, pos_nonneg, pos_le, pos_lt, mul_le, mul_pos, nat_abs_add, nat_abs_neg, nat_abs_mul, within_nat_abs, le_of_within}
+use Rattle.algebra.specs.Order.{◌≦◌, ◌≺◌, Within, ≤ℤ-or-<ℤ, <ℤ→≤ℤ, pos_nonneg, pos_le, pos_lt, mul_pos, nat_abs_add, nat_abs_neg, nat_abs_mul, within_nat_abs, le_of_within}
 use Rattle.algebra.specs.Mono.{mul_mono, within_mul, within_product}
 use Rattle.algebra.specs.Sign.{sign, signed_of}
 use Rattle.number.specs.Exact.{Is, Sized, zeroᶠ, one}

@@ -1,5 +1,7 @@
 // A closed list of lines clipped to a half-plane (boundary.rs, `clip`): from one half of a lent list to
 // the other, four numbers to a line.
+#![tactic(auto)]
+
 pub mod halves;
 pub mod parts;
 pub mod path;

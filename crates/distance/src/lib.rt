@@ -1,4 +1,6 @@
 // What a boundary is made of, lines and ellipses, and the distance of a point from an outline's edges (boundary.rs).
+#![tactic(auto)]
+
 pub mod ellipse;
 pub mod nearest;
 

@@ -1,4 +1,6 @@
 // A whole ellipse: its tests and its nearest point, with the laws that it is finite and on the side of the query.
+#![tactic(auto)]
+
 ghost use Rattle.std.specs.Prelude.{◌≡◌};
 ghost use Rattle.ellipse.specs.Ellipse.{axis_fits, offset_fits, ellipse_fits, ellipse_tested, ellipse_answer};
 

@@ -1,5 +1,4 @@
 -- `ellipse::ellipse_fits` meets its contract. Assumes nothing.
-use borrow.Author.Rules.{rules}
 use Rattle.ellipse.specs.Ellipse.{ellipse_fits}
 use Rattle.ellipse.proofs.ellipse_fits.Goals as goal
 

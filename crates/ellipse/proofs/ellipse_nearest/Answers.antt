@@ -1,5 +1,4 @@
 -- `ellipse::ellipse_nearest` meets its contract. Assumes nothing.
-use borrow.Author.Rules.{rules}
 use Rattle.accept.specs.Refusals.{given}
 use Rattle.ellipse.specs.Ellipse.{ellipse_answer}
 use Rattle.ellipse.proofs.ellipse_nearest.Goals as goal

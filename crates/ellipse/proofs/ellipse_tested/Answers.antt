@@ -1,6 +1,5 @@
 -- `ellipse::ellipse_tested` meets its contract. Assumes nothing.
 use Rattle.ellipse.specs.Ellipse.{ellipse_tested}
-use borrow.Author.Rules.{rules}
 use Rattle.ellipse.proofs.ellipse_tested.Goals as goal
 
 pub returns : goal.returns

@@ -1,5 +1,4 @@
 -- `ellipse::offset_fits` meets its contract. Assumes nothing.
-use borrow.Author.Rules.{rules}
 use lib.Ieee.{of_bits}
 use Rattle.ellipse.specs.Ellipse.{offset_fits}
 use Rattle.ellipse.proofs.offset_fits.Goals as goal

@@ -1,5 +1,4 @@
 -- `accept::answers::box_fields` meets its contract. Assumes nothing.
-use borrow.Author.Rules.{rules}
 use Rattle.accept.proofs.answers.box_fields.Goals as goal
 
 pub returns-in-Refused : goal.returns-in-Refused

@@ -1,5 +1,4 @@
 -- `accept::answers::count_fields` meets its contract. Assumes nothing.
-use borrow.Author.Rules.{rules}
 use Rattle.accept.proofs.answers.count_fields.Goals as goal
 
 pub returns-in-Refused : goal.returns-in-Refused

@@ -1,5 +1,4 @@
 -- `accept::answers::distance_fields` meets its contract. Assumes nothing.
-use borrow.Author.Rules.{rules}
 use Rattle.accept.proofs.answers.distance_fields.Goals as goal
 
 pub returns-in-Refused : goal.returns-in-Refused

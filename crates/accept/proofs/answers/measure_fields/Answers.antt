@@ -1,5 +1,4 @@
 -- `accept::answers::measure_fields` meets its contract. Assumes nothing.
-use borrow.Author.Rules.{rules}
 use Rattle.accept.proofs.answers.measure_fields.Goals as goal
 
 pub returns-in-Refused : goal.returns-in-Refused

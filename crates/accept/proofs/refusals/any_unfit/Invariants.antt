@@ -1,12 +1,10 @@
 -- `accept::refusals::any_unfit` meets its contract: what was found so far and the numbers that are left give the answer. Assumes nothing.
-use mathlib.Core.Path.{◌≡◌, refl, sym, ◌∙◌}
+use mathlib.Core.Path.{◌≡◌}
 use mathlib.Core.Bool.{Bool, not, ◌||◌, cond}
 use Prim.Native.Nat.{◌≤◌, ◌-◌}
-use borrow.Author.Rules.{rules}
 use lib.ListN.{length, drop}
-use lib.Ieee.{Float, nan}
+use lib.Ieee.{Float}
 use lib.Ieee.Scale.{finite}
-use Rattle.lists.proofs.FoldLaws.{fold_drop_next, fold_drop_end}
 use Rattle.lists.specs.Lists.{fold, any}
 use Rattle.boundary.specs.Boxes.{is_in_field}
 use Rattle.accept.proofs.refusals.any_unfit.Given as goal

@@ -1,6 +1,5 @@
 -- `accept::refusals::box_fits` meets its contract. Assumes nothing.
 use Rattle.boundary.specs.Boxes.{box_fits}
-use borrow.Author.Rules.{rules}
 use Rattle.accept.proofs.refusals.box_fits.Goals as goal
 
 pub returns : goal.returns

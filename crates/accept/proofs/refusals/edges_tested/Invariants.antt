@@ -1,18 +1,12 @@
 -- `accept::refusals::edges_tested` meets its contract: what was summed so far and the edges that are left give both answers. Assumes nothing.
-use mathlib.Core.Path.{◌≡◌, sym, ap, ◌∙◌}
+use mathlib.Core.Path.{◌≡◌}
 use mathlib.Core.Bool.{Bool, false, ◌||◌}
 use Prim.Native.Nat.{◌-◌, ◌<◌}
-use native.Mathlib.Nat.{sub-zero}
-use native.Mathlib.Omega.{arith}
-use borrow.Author.Rules.{rules}
-use lib.Ieee.{Float, binary64, add, of_bits}
+use lib.Ieee.{Float, binary64, add}
 use Rattle.boundary.specs.declared.Edge.{Edge}
 use Rattle.lists.specs.Lists.{run, fold, any, total}
 use Rattle.boundary.specs.Outline.{same_point, count, vertex_at, edge_at, edges}
-use Rattle.boundary.proofs.OutlineLaws.{next_edge, last_edge}
-use Rattle.lists.proofs.FoldLaws.{fold_run_next, fold_run_end, fold_found}
-use Rattle.accept.specs.Area.{shoelace_term, area_of}
-use Rattle.accept.specs.Verdicts.{edges_verdict}
+use Rattle.accept.specs.Area.{shoelace_term}
 use Rattle.accept.proofs.refusals.edges_tested.Given as goal
 
 abbrev joins : Edge → Bool

@@ -1,6 +1,5 @@
 -- `accept::refusals::last_tested` meets its contract. Assumes nothing.
 use mathlib.Core.Path.{sym, ◌∙◌}
-use borrow.Author.Rules.{rules}
 use lib.Ieee.{of_bits}
 use Rattle.accept.specs.Verdicts.{edges_verdict}
 use Rattle.accept.proofs.refusals.last_tested.Goals as goal

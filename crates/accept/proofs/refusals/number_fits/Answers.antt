@@ -1,5 +1,4 @@
 -- `accept::refusals::number_fits` meets its contract. Assumes nothing.
-use borrow.Author.Rules.{rules}
 use Rattle.accept.proofs.refusals.number_fits.Goals as goal
 
 pub returns-then-only : goal.returns-then-only

@@ -1,5 +1,4 @@
 -- `accept::refusals::number_of` meets its contract: each line of the table. Assumes nothing.
-use borrow.Author.Rules.{rules}
 use Rattle.accept.proofs.refusals.number_of.Goals as goal
 
 pub returns-in-OddCount : goal.returns-in-OddCount

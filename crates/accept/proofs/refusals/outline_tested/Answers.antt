@@ -1,5 +1,4 @@
 -- `accept::refusals::outline_tested` meets its contract. Assumes nothing.
-use borrow.Author.Rules.{rules}
 use Rattle.accept.proofs.VerdictLaws.{test_of_verdict}
 use Rattle.accept.proofs.refusals.outline_tested.Goals as goal
 

@@ -1,5 +1,4 @@
 -- `accept::refusals::outline_verdict` meets its contract. Assumes nothing.
-use borrow.Author.Rules.{rules}
 use Rattle.accept.specs.Refusals.{shape_tested, outline_tested}
 use Rattle.accept.proofs.refusals.outline_verdict.Goals as goal
 

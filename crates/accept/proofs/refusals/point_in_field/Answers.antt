@@ -1,5 +1,4 @@
 -- `accept::refusals::point_in_field` meets its contract. Assumes nothing.
-use borrow.Author.Rules.{rules}
 use Rattle.accept.proofs.refusals.point_in_field.Goals as goal
 
 pub returns : goal.returns

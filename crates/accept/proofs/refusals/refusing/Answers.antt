@@ -1,6 +1,5 @@
 -- `accept::refusals::refusing` meets its contract. Assumes nothing.
 use Rattle.accept.specs.Refusals.{◌refusing◌when◌}
-use borrow.Author.Rules.{rules}
 use Rattle.accept.proofs.refusals.refusing.Goals as goal
 
 pub returns-then-fails : goal.returns-then-fails

@@ -1,5 +1,4 @@
 -- `accept::refusals::shape_tested` meets its contract. Assumes nothing.
-use borrow.Author.Rules.{rules}
 use borrow.Author.Tests.{eq-eqb, ne_eqb, lt-ltb, le-ltb}
 use Rattle.accept.specs.Refusals.{given, shape_tested}
 use Rattle.accept.proofs.refusals.shape_tested.Goals as goal

@@ -1,6 +1,5 @@
 -- `accept::refusals::sign_tested` meets its contract. Assumes nothing.
 use mathlib.Core.Path.{sym, ◌∙◌}
-use borrow.Author.Rules.{rules}
 use lib.Ieee.{of_bits}
 use Rattle.accept.proofs.VerdictLaws.{sign_negative, sign_kept, sign_turned}
 use Rattle.accept.proofs.refusals.sign_tested.Goals as goal

@@ -1,5 +1,4 @@
 -- `accept::refusals::test_of` meets its contract. Assumes nothing.
-use borrow.Author.Rules.{rules}
 use Rattle.accept.proofs.refusals.test_of.Goals as goal
 
 pub returns-in-TurnedAway : goal.returns-in-TurnedAway

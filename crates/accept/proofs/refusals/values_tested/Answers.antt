@@ -1,7 +1,6 @@
 -- `accept::refusals::values_tested` meets its contract: where no number is outside the field, every one is finite. Assumes nothing.
 use mathlib.Core.Path.{◌≡◌, refl, sym, ◌∙◌}
 use mathlib.Core.Bool.{true, false, not, true≢false}
-use borrow.Author.Rules.{rules}
 use lib.Ieee.{Float, nan, inf, fin, le, neg}
 use lib.Ieee.Scale.{finite}
 use Rattle.boundary.specs.Boxes.{is_in_field}

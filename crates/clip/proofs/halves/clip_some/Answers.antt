@@ -6,7 +6,6 @@ use native.Mathlib.Omega.{arith}
 use Rattle.clip.specs.Lent.{line_in}
 use Rattle.clip.proofs.LentLaws.{rest_kept}
 use Rattle.clip.proofs.StageLaws.{place_le, place_apart, all_parts_kept, none_kept_lem, last_out, some_dropped, clip_traced, all_inside, all_outside, some_inside, short}
-use borrow.Author.Rules.{rules}
 use Rattle.clip.proofs.halves.clip_some.Goals as goal
 
 pub first_pass-found-requires : goal.first_pass-found-requires

@@ -1,5 +1,4 @@
 -- `clip::halves::place` meets its contract. Assumes nothing.
-use borrow.Author.Rules.{rules}
 use Rattle.clip.proofs.halves.place.Goals as goal
 
 pub returns-then-second : goal.returns-then-second

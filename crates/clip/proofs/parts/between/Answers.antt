@@ -3,7 +3,6 @@ use mathlib.Core.Path.{sym, ◌∙◌}
 use lib.Ieee.{of_bits}
 use Rattle.clip.specs.Passes.{marks_between}
 use Rattle.clip.proofs.CutLaws.{uncut}
-use borrow.Author.Rules.{rules}
 use Rattle.clip.proofs.parts.between.Goals as goal
 
 pub returns-then-p-d : goal.returns-then-p-d

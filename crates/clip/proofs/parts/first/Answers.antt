@@ -1,7 +1,6 @@
 -- `clip::parts::first` meets its contract. Assumes nothing.
 use lib.Ieee.{of_bits}
 use Rattle.clip.specs.Passes.{first_part}
-use borrow.Author.Rules.{rules}
 use Rattle.clip.proofs.parts.first.Goals as goal
 
 pub returns-then-m : goal.returns-then-m

@@ -1,6 +1,5 @@
 -- `clip::parts::in_half_plane` meets its contract. Assumes nothing.
 use Rattle.clip.specs.Clip.{in_half_plane}
-use borrow.Author.Rules.{rules}
 use Rattle.clip.proofs.parts.in_half_plane.Goals as goal
 
 pub returns : goal.returns

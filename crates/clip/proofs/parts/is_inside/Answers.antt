@@ -1,10 +1,7 @@
 -- `clip::parts::is_inside` meets its contract: what is above a bound is not above ∞, unless it is a NaN, and likewise below. Assumes nothing.
 use mathlib.Core.Path.{◌≡◌, refl}
 use mathlib.Core.Bool.{Bool, true, false, ◌&&◌, cond}
-use lib.Ieee.{Float, nan, inf, fin, le, of_bits, div, neg, binary64}
-use Rattle.clip.specs.declared.HalfPlane.{HalfPlane}
-use Rattle.clip.specs.Passes.{coord_inside}
-use borrow.Author.Rules.{rules}
+use lib.Ieee.{Float, nan, inf, fin, le, of_bits, div, neg}
 use Rattle.clip.proofs.parts.is_inside.Goals as goal
 
 and_true : (b : Bool) → b && true ≡ b

@@ -1,6 +1,5 @@
 -- `clip::parts::mark` meets its contract. Assumes nothing.
 use Rattle.clip.specs.Passes.{mark_at}
-use borrow.Author.Rules.{rules}
 use Rattle.clip.proofs.parts.mark.Goals as goal
 
 pub returns : goal.returns

@@ -1,6 +1,5 @@
 -- `clip::parts::marked` meets its contract. Assumes nothing.
 use Rattle.clip.specs.Passes.{marks_of}
-use borrow.Author.Rules.{rules}
 use Rattle.clip.proofs.parts.marked.Goals as goal
 
 pub returns : goal.returns

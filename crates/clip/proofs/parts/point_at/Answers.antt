@@ -1,6 +1,5 @@
 -- `clip::parts::point_at` meets its contract. Assumes nothing.
 use Rattle.clip.specs.Clip.{point_along}
-use borrow.Author.Rules.{rules}
 use Rattle.clip.proofs.parts.point_at.Goals as goal
 
 pub returns : goal.returns

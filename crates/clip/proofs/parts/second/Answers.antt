@@ -1,6 +1,5 @@
 -- `clip::parts::second` meets its contract. Assumes nothing.
 use Rattle.clip.specs.Passes.{last_part}
-use borrow.Author.Rules.{rules}
 use Rattle.clip.proofs.parts.second.Goals as goal
 
 pub returns : goal.returns

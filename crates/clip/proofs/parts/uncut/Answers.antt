@@ -1,7 +1,6 @@
 -- `clip::parts::uncut` meets its contract. Assumes nothing.
 use lib.Ieee.{of_bits}
 use Rattle.clip.specs.Passes.{uncut_of}
-use borrow.Author.Rules.{rules}
 use Rattle.clip.proofs.parts.uncut.Goals as goal
 
 pub returns : goal.returns

@@ -1,6 +1,5 @@
 -- `clip::path::close` meets its contract. Assumes nothing.
 use Rattle.clip.proofs.LentLaws.{closes}
-use borrow.Author.Rules.{rules}
 use Rattle.clip.proofs.path.close.Goals as goal
 
 pub shape_of-w : goal.shape_of-w

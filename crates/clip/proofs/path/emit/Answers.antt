@@ -1,6 +1,5 @@
 -- `clip::path::emit` meets its contract. Assumes nothing.
 use native.Mathlib.Omega.{arith}
-use borrow.Author.Tests.{not-true, not-false}
 use Rattle.clip.proofs.LentLaws.{unchanged, stored_line, off, beyond_room, on}
 use borrow.Author.Rules.{rules}
 use Rattle.clip.proofs.path.emit.Goals as goal

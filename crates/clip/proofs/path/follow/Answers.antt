@@ -1,7 +1,6 @@
 -- `clip::path::follow` meets its contract. Assumes nothing.
 use mathlib.Core.Path.{◌∙◌}
 use native.Mathlib.Omega.{arith}
-use borrow.Author.Tests.{not-true, not-false}
 use Rattle.clip.specs.Passes.{followed}
 use Rattle.clip.proofs.LentLaws.{unchanged, then, one_le, path_kept}
 use borrow.Author.Rules.{rules}

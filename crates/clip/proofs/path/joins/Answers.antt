@@ -1,5 +1,4 @@
 -- `clip::path::joins` meets its contract. Assumes nothing.
-use borrow.Author.Rules.{rules}
 use Rattle.clip.proofs.path.joins.Goals as goal
 
 pub returns : goal.returns

@@ -1,5 +1,4 @@
 -- `clip::path::moved` meets its contract. Assumes nothing.
-use borrow.Author.Rules.{rules}
 use Rattle.clip.proofs.path.moved.Goals as goal
 
 pub returns : goal.returns

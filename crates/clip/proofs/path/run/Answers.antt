@@ -1,11 +1,9 @@
 -- `clip::path::run` meets its contract: the lines so far have been written as a path. Assumes nothing.
 use native.Mathlib.Nat.{le_antisymm}
 use native.Mathlib.Omega.{arith}
-use Prim.Native.Nat.{◌-◌, ◌+◌, ◌*◌, ◌≤◌, ◌<◌}
-use Rattle.clip.specs.Passes.{Path, step_of}
-use Rattle.clip.specs.Lent.{line_in, Beside, Tracks}
+use Rattle.clip.specs.Passes.{step_of}
 use Rattle.clip.proofs.LentLaws.{unchanged, then, line_in_kept}
-use Rattle.clip.proofs.RoundLaws.{ComesAt, turn_first, turn_next, fold_round, fold_round_none, fold_round_next, fold_round_all}
+use Rattle.clip.proofs.RoundLaws.{turn_first, turn_next, fold_round_none, fold_round_next, fold_round_all}
 use borrow.Author.Rules.{rules}
 use Rattle.clip.proofs.path.run.Goals as goal
 

@@ -8,7 +8,6 @@ use Rattle.clip.specs.declared.HalfPlane.{HalfPlane}
 use Rattle.clip.specs.declared.Marks.{Marks}
 use Rattle.clip.specs.Passes.{marks_of, first_part, last_part, Path, followed, step_of}
 use Rattle.clip.proofs.LentLaws.{then}
-use borrow.Author.Rules.{rules}
 use Rattle.clip.proofs.path.step.Goals as goal
 
 -- the parts of a line that is not cut, and of one that is

@@ -4,7 +4,6 @@ use native.Mathlib.Omega.{arith}
 use Rattle.clip.specs.declared.State.{State}
 use Rattle.clip.specs.Passes.{nothing, traced}
 use Rattle.clip.proofs.LentLaws.{then, starts}
-use borrow.Author.Rules.{rules}
 use Rattle.clip.proofs.path.trace.Goals as goal
 
 pub run-b-requires : goal.run-b-requires

@@ -1,10 +1,8 @@
 -- `clip::scan::first_pass` meets its contract: the lines so far do not come in, and the lines that are left give the start. Assumes nothing.
-use mathlib.Core.Path.{◌≡◌, sym, ◌∙◌}
-use Prim.Native.Nat.{◌+◌, ◌-◌, ◌≤◌}
+use mathlib.Core.Path.{sym, ◌∙◌}
 use native.Mathlib.Nat.{sub-zero, le_antisymm, zero-add, add-zero, le_refl}
 use native.Mathlib.Omega.{arith}
-use Rattle.clip.specs.Passes.{marks_of, start_line}
-use Rattle.clip.specs.Lent.{line_in, lines_from}
+use Rattle.clip.specs.Lent.{line_in}
 use Rattle.clip.proofs.FirstPassLaws.{start_here, start_later, start_past_all}
 use borrow.Author.Rules.{rules}
 use Rattle.clip.proofs.scan.first_pass.Goals as goal

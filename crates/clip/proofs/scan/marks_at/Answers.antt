@@ -1,6 +1,5 @@
 -- `clip::scan::marks_at` meets its contract. Assumes nothing.
 use Rattle.clip.proofs.FirstPassLaws.{marks_of_column}
-use borrow.Author.Rules.{rules}
 use Rattle.clip.proofs.scan.marks_at.Goals as goal
 
 pub returns : goal.returns

@@ -1,5 +1,4 @@
 -- `distance::Piece::nearest` meets its contract. Assumes nothing.
-use borrow.Author.Rules.{rules}
 use Rattle.distance.specs.Piece.{piece_near}
 use Rattle.distance.proofs.Piece.nearest.Goals as goal
 

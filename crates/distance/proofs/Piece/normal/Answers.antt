@@ -1,5 +1,4 @@
 -- `distance::Piece::normal` meets its contract. Assumes nothing.
-use borrow.Author.Rules.{rules}
 use lib.Ieee.{of_bits}
 use Rattle.distance.specs.Piece.{piece_normal}
 use Rattle.distance.proofs.Piece.normal.Goals as goal

@@ -1,5 +1,4 @@
 -- `distance::ellipse::curve_at` meets its contract. Assumes nothing.
-use borrow.Author.Rules.{rules}
 use lib.Ieee.{of_bits}
 use Rattle.distance.specs.Ellipse.{curve_at}
 use Rattle.distance.proofs.ellipse.curve_at.Goals as goal

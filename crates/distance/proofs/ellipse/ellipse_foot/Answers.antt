@@ -1,5 +1,4 @@
 -- `distance::ellipse::ellipse_foot` meets its contract. Assumes nothing.
-use borrow.Author.Rules.{rules}
 use Rattle.distance.specs.Ellipse.{ellipse_foot}
 use Rattle.distance.proofs.ellipse.ellipse_foot.Goals as goal
 

@@ -1,5 +1,4 @@
 -- `distance::ellipse::ellipse_near` meets its contract. Assumes nothing.
-use borrow.Author.Rules.{rules}
 use lib.Ieee.{of_bits}
 use Rattle.distance.specs.Ellipse.{ellipse_near}
 use Rattle.distance.proofs.ellipse.ellipse_near.Goals as goal

@@ -1,9 +1,8 @@
 -- `distance::ellipse::halved` meets its contract: the halvings that are left give the final answer. Assumes nothing.
-use mathlib.Core.Path.{◌≡◌, refl, sym, ◌∙◌}
-use Prim.Native.Nat.{◌≤◌, ◌-◌}
+use mathlib.Core.Path.{refl, sym, ◌∙◌}
 use borrow.Author.Rules.{rules}
 use lib.Ieee.{of_bits}
-use Rattle.distance.specs.Ellipse.{halve, halved_of}
+use Rattle.distance.specs.Ellipse.{halved_of}
 use Rattle.distance.proofs.HalveLaws.{halve_end, halve_met, halve_above, halve_below, halve_root}
 use Rattle.distance.proofs.ellipse.halved.Goals as goal
 use Rattle.distance.proofs.ellipse.halved.Goals.{then-gs, else-gs+then-gs-2}
@@ -32,7 +31,7 @@ loop-i-preserved c =
     let t = m.loop-i-test.true in (
       search rules,
       elim c.if-gs.branch [
-          then-gs k ↦ rw (k.s0-is, k.s1-is) (sym (halve_above _ 1100 l.i l.s l.s0 l.s1 _ t m.middle_of-s.ensures c.if-s-s0.false (rw (← c.curve_at-gs.ensures) k.if-gs.true)) ∙ l.invariant.1)
+        | then-gs k ↦ rw (k.s0-is, k.s1-is) (sym (halve_above _ 1100 l.i l.s l.s0 l.s1 _ t m.middle_of-s.ensures c.if-s-s0.false (rw (← c.curve_at-gs.ensures) k.if-gs.true)) ∙ l.invariant.1)
         | else-gs+then-gs-2 k ↦ rw (k.s0-is, k.s1-is) (sym (halve_below _ 1100 l.i l.s l.s0 l.s1 _ t m.middle_of-s.ensures c.if-s-s0.false (rw (← c.curve_at-gs.ensures) k.if-gs.false) (rw (← c.curve_at-gs.ensures) k.if-gs-2.true)) ∙ l.invariant.1)
       ],
     )

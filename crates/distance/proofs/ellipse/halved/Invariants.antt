@@ -1,11 +1,7 @@
 -- `distance::ellipse::halved` meets its contract: the halvings that are left give the final answer. Assumes nothing.
-use mathlib.Core.Path.{◌≡◌, refl, sym, ◌∙◌}
-use mathlib.Core.Logic.{⊎_elim}
+use mathlib.Core.Path.{◌≡◌}
 use Prim.Native.Nat.{◌≤◌, ◌-◌}
-use borrow.Author.Rules.{rules}
-use lib.Ieee.{of_bits}
 use Rattle.distance.specs.Ellipse.{halve, halved_of}
-use Rattle.distance.proofs.HalveLaws.{halve_end, halve_met, halve_above, halve_below, halve_root}
 use Rattle.distance.proofs.ellipse.halved.Given as goal
 
 abbrev pub invariant-loop-i : goal.invariant-loop-i

@@ -1,5 +1,4 @@
 -- `distance::ellipse::long_nearest` meets its contract. Assumes nothing.
-use borrow.Author.Rules.{rules}
 use Rattle.distance.specs.Ellipse.{long_nearest}
 use Rattle.distance.proofs.ellipse.long_nearest.Goals as goal
 

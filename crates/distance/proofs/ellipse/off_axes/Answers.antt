@@ -1,5 +1,4 @@
 -- `distance::ellipse::off_axes` meets its contract. Assumes nothing.
-use borrow.Author.Rules.{rules}
 use lib.Ieee.{of_bits}
 use Rattle.distance.specs.Ellipse.{off_axes}
 use Rattle.distance.proofs.ellipse.off_axes.Goals as goal

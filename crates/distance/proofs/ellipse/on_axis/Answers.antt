@@ -1,5 +1,4 @@
 -- `distance::ellipse::on_axis` meets its contract. Assumes nothing.
-use borrow.Author.Rules.{rules}
 use lib.Ieee.{of_bits}
 use Rattle.distance.specs.Ellipse.{on_axis}
 use Rattle.distance.proofs.ellipse.on_axis.Goals as goal

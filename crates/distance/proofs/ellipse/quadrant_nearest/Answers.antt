@@ -1,5 +1,4 @@
 -- `distance::ellipse::quadrant_nearest` meets its contract. Assumes nothing.
-use borrow.Author.Rules.{rules}
 use lib.Ieee.{of_bits}
 use Rattle.distance.specs.Ellipse.{quadrant_nearest}
 use Rattle.distance.proofs.ellipse.quadrant_nearest.Goals as goal

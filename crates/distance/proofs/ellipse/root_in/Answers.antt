@@ -1,5 +1,4 @@
 -- `distance::ellipse::root_in` meets its contract. Assumes nothing.
-use borrow.Author.Rules.{rules}
 use lib.Ieee.{of_bits}
 use Rattle.distance.specs.Ellipse.{root_in}
 use Rattle.distance.proofs.ellipse.root_in.Goals as goal

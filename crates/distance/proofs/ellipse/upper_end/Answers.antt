@@ -1,5 +1,4 @@
 -- `distance::ellipse::upper_end` meets its contract. Assumes nothing.
-use borrow.Author.Rules.{rules}
 use lib.Ieee.{of_bits}
 use Rattle.distance.specs.Ellipse.{upper_end}
 use Rattle.distance.proofs.ellipse.upper_end.Goals as goal

@@ -1,6 +1,5 @@
 -- `distance::nearest::distance` meets its contract. Assumes nothing.
 use mathlib.Core.Path.{ap}
-use borrow.Author.Rules.{rules}
 use Rattle.boundary.specs.declared.Near.{Near}
 use Rattle.distance.specs.Nearest.{signed_of}
 use Rattle.boundary.proofs.FieldLaws.{edge_in_field_lem}

@@ -1,5 +1,4 @@
 -- `distance::nearest::found` meets its contract. Assumes nothing.
-use borrow.Author.Rules.{rules}
 use Rattle.distance.specs.Search.{found_of}
 use Rattle.boundary.proofs.KnownLaws.{owned_point, owned_edge}
 use Rattle.distance.proofs.SearchLaws.{foot_near, near_finite}

@@ -1,5 +1,4 @@
 -- `distance::nearest::gap_squares` meets its contract. Assumes nothing.
-use borrow.Author.Rules.{rules}
 use Rattle.distance.specs.Search.{gap_squares}
 use Rattle.distance.proofs.nearest.gap_squares.Goals as goal
 

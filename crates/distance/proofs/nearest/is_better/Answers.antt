@@ -1,7 +1,6 @@
 -- `distance::nearest::is_better` meets its contract. Assumes nothing.
 use mathlib.Core.Path.{◌≡◌, refl}
 use mathlib.Core.Bool.{Bool, true, false, not, cond}
-use borrow.Author.Rules.{rules}
 use lib.Dec.{ltb}
 use lib.Ieee.{unlike, lt}
 use Rattle.number.specs.Hypot.{Short}

@@ -1,6 +1,5 @@
 -- `distance::nearest::is_clear` meets its contract. Assumes nothing.
 use mathlib.Core.Path.{sym}
-use borrow.Author.Rules.{rules}
 use lib.Ieee.{of_bits}
 use Rattle.boundary.proofs.KnownLaws.{owned_point}
 use Rattle.distance.proofs.ClearLaws.{above_threshold}

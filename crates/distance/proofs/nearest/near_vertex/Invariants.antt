@@ -1,7 +1,5 @@
 -- `distance::nearest::near_vertex` meets its contract. Assumes nothing.
-use mathlib.Core.Logic.{⊎_elim}
 use Prim.Native.Nat.{◌-◌, ◌<◌}
-use borrow.Author.Rules.{rules}
 use Rattle.boundary.specs.Outline.{count}
 use Rattle.distance.proofs.nearest.near_vertex.Given as goal
 

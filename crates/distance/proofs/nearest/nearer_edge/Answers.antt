@@ -1,6 +1,5 @@
 -- `distance::nearest::nearer_edge` meets its contract: an edge that is left out is not nearer, and squared distances that differ clearly tell which wins. Assumes nothing.
 use mathlib.Core.Path.{sym, ◌∙◌}
-use borrow.Author.Rules.{rules}
 use Rattle.boundary.specs.Line.{foot_of, line_near}
 use Rattle.distance.specs.Search.{found_of, length_to}
 use Rattle.boundary.proofs.KnownLaws.{owned_point, owned_edge}

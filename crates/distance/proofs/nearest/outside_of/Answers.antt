@@ -1,5 +1,4 @@
 -- `distance::nearest::outside_of` meets its contract. Assumes nothing.
-use borrow.Author.Rules.{rules}
 use lib.Ieee.{of_bits}
 use Rattle.distance.specs.Search.{outside}
 use Rattle.distance.proofs.nearest.outside_of.Goals as goal

@@ -1,5 +1,4 @@
 -- `distance::nearest::own_normal` meets its contract. Assumes nothing.
-use borrow.Author.Rules.{rules}
 use Rattle.distance.specs.Piece.{piece_normal}
 use Rattle.distance.proofs.nearest.own_normal.Goals as goal
 

@@ -1,5 +1,4 @@
 -- `distance::nearest::rounding` meets its contract. Assumes nothing.
-use borrow.Author.Rules.{rules}
 use lib.Ieee.{of_bits}
 use Rattle.distance.specs.Nearest.{rounding_of}
 use Rattle.distance.proofs.nearest.rounding.Goals as goal

@@ -1,5 +1,4 @@
 -- `distance::nearest::signed` meets its contract. Assumes nothing.
-use borrow.Author.Rules.{rules}
 use lib.Ieee.{of_bits}
 use Rattle.distance.specs.Nearest.{signed_of}
 use Rattle.boundary.proofs.KnownLaws.{owned_point, owned_edge}

@@ -1,5 +1,4 @@
 -- `geometry::polygon::area` meets its contract. Assumes nothing.
-use borrow.Author.Rules.{rules}
 use mathlib.Core.Path.{sym, ◌∙◌}
 use Rattle.accept.proofs.TestLaws.{given_passed, given_failed}
 use Rattle.accept.proofs.VerdictLaws.{area_passed, turned_failed}

@@ -1,5 +1,4 @@
 -- `geometry::polygon::bounds` meets its contract. Assumes nothing.
-use borrow.Author.Rules.{rules}
 use Rattle.accept.specs.Refusals.{given}
 use Rattle.geometry.specs.Answers.{bounds_answer}
 use Rattle.geometry.proofs.polygon.bounds.Goals as goal

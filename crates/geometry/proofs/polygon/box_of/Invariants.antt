@@ -1,11 +1,8 @@
 -- `geometry::polygon::box_of` meets its contract: the box so far and the vertices that are left give the box of all. Assumes nothing.
-use mathlib.Core.Path.{◌≡◌, sym, ◌∙◌}
+use mathlib.Core.Path.{◌≡◌}
 use Prim.Native.Nat.{◌≤◌, ◌-◌}
-use native.Mathlib.Nat.{sub-zero}
-use borrow.Author.Rules.{rules}
 use Rattle.lists.specs.Lists.{run, fold}
 use Rattle.boundary.specs.Outline.{count, vertex_at, vertices}
-use Rattle.lists.proofs.FoldLaws.{fold_run_next, fold_run_end}
 use Rattle.boundary.specs.Boxes.{stretched}
 use Rattle.geometry.specs.Polygon.{bounds_of}
 use Rattle.geometry.proofs.polygon.box_of.Given as goal

@@ -1,6 +1,5 @@
 -- `geometry::polygon::distance` meets its contract. Assumes nothing.
 use mathlib.Core.Path.{sym, ◌∙◌}
-use borrow.Author.Rules.{rules}
 use borrow.Author.Tests.{not-false}
 use Rattle.accept.specs.Refusals.{given}
 use Rattle.geometry.specs.Answers.{query_tested, distance_answer}
@@ -14,7 +13,7 @@ nearest_edge-edge-requires c =
     (v.0, sym c.point_in_field-within.ensures ∙ not-false _ q.1, v.1)
 
 pub distance-requires : goal.distance-requires
-distance-requires c = 
+distance-requires c =
     let q = refusing_passed _ _ _ (sym c.refusing.ensures ∙ c.in-Passed.is) in
     let v = accepted_field _ (sym c.outline_tested-t.ensures ∙ q.0) in
     (v.0, sym c.point_in_field-within.ensures ∙ not-false _ q.1, c.nearest_edge-edge.ensures)

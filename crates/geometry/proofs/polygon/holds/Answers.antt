@@ -1,18 +1,18 @@
 -- `geometry::polygon::holds` meets its contract: whether the edges so far count oddly, and the edges that are left, give whether all do, in the Rust's order. Assumes nothing.
 use mathlib.Core.Path.{◌≡◌, refl, sym, ◌∙◌}
 use mathlib.Core.Bool.{Bool}
-use Prim.Native.Nat.{ℕ, zero, suc, ◌+◌, ◌-◌, ◌≤◌, ◌<◌}
+use Prim.Native.Nat.{ℕ, zero, suc, ◌+◌, ◌<◌}
 use native.Mathlib.Nat.{sub-zero}
 use native.Mathlib.Omega.{arith}
 use borrow.Author.Rules.{rules}
 use borrow.Author.Tests.{ne_eqb}
-use lib.Ieee.{unlike, lt}
+use lib.Ieee.{unlike}
 use Rattle.boundary.specs.declared.Point.{Point}
 use Rattle.boundary.specs.declared.Edge.{Edge}
 use Rattle.lists.specs.Lists.{run, fold, odd_many}
-use Rattle.boundary.specs.Outline.{count, vertex_at, edges}
+use Rattle.boundary.specs.Outline.{count, edges}
 use Rattle.lists.proofs.FoldLaws.{fold_run_next, fold_run_end}
-use Rattle.geometry.specs.Polygon.{crosses_of, contains_of, previous, edge_into, contains_rust}
+use Rattle.geometry.specs.Polygon.{crosses_of, contains_of, previous, contains_rust}
 use Rattle.geometry.proofs.ContainsLaws.{contains_rust_lem}
 use Rattle.geometry.proofs.polygon.holds.Goals as goal
 

@@ -1,5 +1,4 @@
 -- `geometry::polygon::is_between` meets its contract. Assumes nothing.
-use borrow.Author.Rules.{rules}
 use Rattle.geometry.proofs.polygon.is_between.Goals as goal
 
 pub returns : goal.returns

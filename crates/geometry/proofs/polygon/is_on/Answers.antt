@@ -1,5 +1,4 @@
 -- `geometry::polygon::is_on` meets its contract. Assumes nothing.
-use borrow.Author.Rules.{rules}
 use lib.Ieee.{of_bits}
 use Rattle.geometry.specs.Polygon.{on_edge}
 use Rattle.geometry.proofs.polygon.is_on.Goals as goal

@@ -1,5 +1,4 @@
 -- `geometry::polygon::locate` meets its contract. Assumes nothing.
-use borrow.Author.Rules.{rules}
 use Rattle.accept.specs.Refusals.{given}
 use Rattle.geometry.specs.Answers.{query_tested, locate_answer}
 use Rattle.geometry.proofs.polygon.locate.Goals as goal

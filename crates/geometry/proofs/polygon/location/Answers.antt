@@ -1,5 +1,4 @@
 -- `geometry::polygon::location` meets its contract. Assumes nothing.
-use borrow.Author.Rules.{rules}
 use Rattle.geometry.specs.Polygon.{locate_of}
 use Rattle.geometry.proofs.polygon.location.Goals as goal
 

@@ -1,14 +1,11 @@
 -- `geometry::polygon::on_boundary` meets its contract: what was found so far and the edges that are left give the answer. Assumes nothing.
-use mathlib.Core.Path.{◌≡◌, sym, ◌∙◌}
+use mathlib.Core.Path.{◌≡◌}
 use mathlib.Core.Bool.{Bool, ◌||◌}
 use Prim.Native.Nat.{◌≤◌, ◌-◌}
-use native.Mathlib.Nat.{sub-zero}
-use borrow.Author.Rules.{rules}
 use Rattle.boundary.specs.declared.Point.{Point}
 use Rattle.boundary.specs.declared.Edge.{Edge}
 use Rattle.lists.specs.Lists.{run, fold, any}
 use Rattle.boundary.specs.Outline.{count, edge_at, edges}
-use Rattle.lists.proofs.FoldLaws.{fold_run_next, fold_run_end}
 use Rattle.geometry.specs.Polygon.{on_edge}
 use Rattle.geometry.proofs.polygon.on_boundary.Given as goal
 

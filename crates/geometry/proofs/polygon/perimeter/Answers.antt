@@ -1,5 +1,4 @@
 -- `geometry::polygon::perimeter` meets its contract. Assumes nothing.
-use borrow.Author.Rules.{rules}
 use Rattle.accept.specs.Refusals.{given}
 use Rattle.geometry.specs.Answers.{perimeter_answer}
 use Rattle.geometry.proofs.polygon.perimeter.Goals as goal

@@ -1,7 +1,6 @@
 -- `geometry::polygon::turned_odd` meets its contract. Assumes nothing.
 use mathlib.Core.Path.{◌≡◌, refl}
 use mathlib.Core.Bool.{Bool, true, false}
-use borrow.Author.Rules.{rules}
 use lib.Ieee.{unlike}
 use Rattle.geometry.specs.Polygon.{crosses_of}
 use Rattle.geometry.proofs.polygon.turned_odd.Goals as goal

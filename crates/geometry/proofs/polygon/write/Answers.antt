@@ -1,12 +1,9 @@
 -- `geometry::polygon::write` meets its contract: the points so far stand at the front, and the places past them are as they were. Assumes nothing.
-use mathlib.Core.Path.{◌≡◌, refl}
-use mathlib.Core.List.{◌++◌}
-use Prim.Native.Nat.{◌≤◌, ◌-◌, ◌*◌}
+use mathlib.Core.Path.{refl}
 use native.Mathlib.Nat.{le_antisymm}
 use borrow.Author.Rules.{rules}
-use lib.ListN.{length, drop, length-set}
+use lib.ListN.{length-set}
 use Rattle.lists.specs.Lists.{run}
-use Rattle.boundary.specs.Outline.{count}
 use Rattle.geometry.specs.Making.{coordinates_of}
 use Rattle.geometry.proofs.WriteLaws.{point_at, write_more, write_all}
 use Rattle.geometry.proofs.polygon.write.Goals as goal

@@ -1,14 +1,12 @@
 -- `geometry::polygon::write` meets its contract: the points so far stand at the front, and the places past them are as they were. Assumes nothing.
-use mathlib.Core.Path.{◌≡◌, refl}
+use mathlib.Core.Path.{◌≡◌}
 use mathlib.Core.List.{◌++◌}
 use Prim.Native.Nat.{◌≤◌, ◌-◌, ◌*◌}
-use native.Mathlib.Nat.{le_antisymm}
-use borrow.Author.Rules.{rules}
-use lib.ListN.{length, drop, length-set}
+use lib.ListN.{length, drop}
 use Rattle.lists.specs.Lists.{run}
 use Rattle.boundary.specs.Outline.{count}
 use Rattle.geometry.specs.Making.{coordinates_of}
-use Rattle.geometry.proofs.WriteLaws.{point_at, write_more, write_all}
+use Rattle.geometry.proofs.WriteLaws.{point_at}
 use Rattle.geometry.proofs.polygon.write.Given as goal
 
 abbrev pub invariant-loop-i : goal.invariant-loop-i
