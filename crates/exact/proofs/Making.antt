@@ -10,7 +10,7 @@ use lib.IntN.{ℤ, pos, neg_ℤ, nat_abs, ◌+ℤ◌}
 use lib.ListN.{length, take, drop, length-reverse}
 use lib.Seq.{take_at}
 use lib.Signed.{le_z}
-use lib.Ieee.{Float, lt}
+use lib.Ieee.{Float}
 use Rattle.algebra.specs.Quote.{quote, ring}
 use Rattle.algebra.specs.Order.{◌≺◌, absℤ, nonneg_nat, nat_abs_neg, <ℤ→≤ℤ}
 use Rattle.algebra.specs.Lin as L

@@ -1,1 +1,3 @@
+#![tactic(auto)]
+
 // Laws only: document 01's starred examples hold of the definitions.

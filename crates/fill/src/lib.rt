@@ -1,4 +1,6 @@
 // The fill of a cell by an outline (boundary.rs, `fill`), in a lent buffer of two halves.
+#![tactic(auto)]
+
 pub mod cell;
 pub mod lines;
 pub mod tests;

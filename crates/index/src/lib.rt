@@ -1,4 +1,6 @@
 // The box tree (index.rs): a tree over boxes, built in lent buffers.
+#![tactic(auto)]
+
 pub mod answers;
 pub mod building;
 pub mod refusals;

@@ -1,4 +1,6 @@
 // The nearest outline for each of many points: the set is tested once, its index built once.
+#![tactic(auto)]
+
 ghost use Rattle.std.specs.Prelude.{◌≡◌, ◌<◌, length};
 ghost use Rattle.index.specs.Buffer.{buffer};
 ghost use Rattle.set.specs.Set.{outlines_of};

@@ -1,4 +1,6 @@
 // `nearest` (index.rs) over a set of outlines.
+#![tactic(auto)]
+
 pub mod answers;
 
 ghost use Rattle.std.specs.Prelude.{◌≡◌, true, ◌<◌, length};

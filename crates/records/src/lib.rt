@@ -1,4 +1,6 @@
 // The tree as a list of node records.
+#![tactic(auto)]
+
 ghost use Rattle.std.specs.Prelude.{◌≡◌, ◌≤◌, ◌<◌, ◌^◌, ◌++◌, length, take, drop};
 ghost use Rattle.lists.specs.Lists.{run, at_front};
 ghost use Rattle.accept.specs.declared.Test.TheVariants.{Passed};

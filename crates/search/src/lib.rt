@@ -1,4 +1,6 @@
 // The search of a set's index for the nearest outline, with a waiting heap: the walk of `nearest` (index.rs).
+#![tactic(auto)]
+
 pub mod heap;
 
 ghost use Rattle.std.specs.Prelude.{◌≡◌, ℕ, ◌+◌, ◌<◌, ◌^◌, length};

@@ -1,4 +1,6 @@
 // An outline as an XY record holds it: making's tests and what making writes, read from the stream by place.
+#![tactic(auto)]
+
 ghost use Rattle.std.specs.Prelude.{◌≡◌, ◌+◌, ◌*◌, ◌≤◌, ◌<◌, length, nat_abs};
 ghost use Rattle.lists.specs.Lists.{at_front};
 ghost use Rattle.boundary.specs.Outline.{count, vertices, edges};

@@ -2,7 +2,6 @@
 use mathlib.Core.Path.{sym, ◌∙◌}
 use Rattle.accept.proofs.TestLaws.{given_passed, given_failed}
 use Rattle.fill.specs.Answers.{fill_outcome}
-use borrow.Author.Rules.{rules}
 use Rattle.fill.proofs.fill.Goals as goal
 
 pub fill_in-requires : goal.fill_in-requires

@@ -1,6 +1,5 @@
 -- `many::answer` meets its contract. Assumes nothing.
 use native.Mathlib.Omega.{arith}
-use borrow.Author.Rules.{rules}
 use Rattle.many.proofs.answer.Goals as goal
 
 pub answer_in-requires : goal.answer_in-requires

@@ -9,7 +9,6 @@ use Rattle.search.proofs.SetSearch.{indexed_searched}
 use Rattle.many.specs.Answers.{AnswerLists}
 use Rattle.many.specs.Work.{many_left, AllAsked}
 use Rattle.many.proofs.ManyLaws.{point_fits}
-use borrow.Author.Rules.{rules}
 use Rattle.many.proofs.answer_in.Goals as goal
 
 pub put_answers-requires : goal.put_answers-requires

@@ -7,7 +7,6 @@ use Rattle.index.specs.Buffer.{IndexBuffer}
 use Rattle.set.proofs.SetLaws.{outlines_length}
 use Rattle.many.specs.Answers.{ManyLent, answer_lists, written_of, with_answers, many_worked}
 use Rattle.many.specs.Work.{many_left}
-use borrow.Author.Rules.{rules}
 use Rattle.many.proofs.answered.Goals as goal
 
 pub returns-then-counts-eq0 : goal.returns-then-counts-eq0

@@ -1,14 +1,12 @@
 -- `many::any_bad_point` meets its contract: what was found so far and the points that are left give the answer. Assumes nothing.
-use mathlib.Core.Path.{◌≡◌, sym, ◌∙◌}
+use mathlib.Core.Path.{sym, ◌∙◌}
 use mathlib.Core.Bool.{Bool, not, ◌||◌}
-use Prim.Native.Nat.{◌≤◌, ◌-◌}
 use native.Mathlib.Nat.{sub-zero}
 use Rattle.boundary.specs.declared.Point.{Point}
 use Rattle.boundary.specs.Boxes.{point_in_field}
-use Rattle.boundary.specs.Outline.{count, vertex_at, vertices}
-use Rattle.lists.specs.Lists.{run, fold, any}
+use Rattle.boundary.specs.Outline.{vertices}
+use Rattle.lists.specs.Lists.{any}
 use Rattle.lists.proofs.FoldLaws.{fold_run_next, fold_run_end}
-use Rattle.many.specs.Answers.{any_bad_point}
 use borrow.Author.Rules.{rules}
 use Rattle.many.proofs.any_bad_point.Goals as goal
 

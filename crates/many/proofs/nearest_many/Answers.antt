@@ -3,7 +3,6 @@ use mathlib.Core.Path.{sym, ◌∙◌}
 use Rattle.accept.proofs.TestLaws.{given_passed, given_failed}
 use Rattle.many.specs.Answers.{many_outcome}
 use Rattle.many.proofs.ManyLaws.{many_ready}
-use borrow.Author.Rules.{rules}
 use Rattle.many.proofs.nearest_many.Goals as goal
 
 pub answered-requires : goal.answered-requires

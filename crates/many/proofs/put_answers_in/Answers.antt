@@ -1,11 +1,10 @@
 -- `many::put_answers_in` meets its contract: the answers so far stand at the front of both lists. Assumes nothing.
-use mathlib.Core.Path.{◌≡◌, refl, sym, ap, ◌∙◌}
-use Prim.Native.Nat.{◌-◌, ◌≤◌}
+use mathlib.Core.Path.{refl, sym, ap, ◌∙◌}
 use native.Mathlib.Nat.{le_antisymm}
 use native.Mathlib.Omega.{arith}
 use lib.ListN.{length}
-use lib.Seq.{sets, length-sets}
-use Rattle.boundary.specs.Outline.{count, vertex_at}
+use lib.Seq.{length-sets}
+use Rattle.boundary.specs.Outline.{vertex_at}
 use Rattle.lists.specs.Lists.{run}
 use Rattle.lists.proofs.StoreLaws.{sets_more}
 use Rattle.search.specs.declared.Best.{Best}

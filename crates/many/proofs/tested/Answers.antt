@@ -1,6 +1,5 @@
 -- `many::tested` meets its contract. Assumes nothing.
 use Rattle.many.specs.Answers.{many_tested}
-use borrow.Author.Rules.{rules}
 use Rattle.many.proofs.tested.Goals as goal
 
 pub returns : goal.returns

@@ -7,7 +7,6 @@ use Rattle.search.specs.declared.Best.{Best}
 use Rattle.set.proofs.SetLaws.{outlines_length}
 use Rattle.nearest.specs.declared.Nearest.TheVariants.{None, At}
 use Rattle.nearest.specs.Nearest.{nearest_in}
-use borrow.Author.Rules.{rules}
 use Rattle.nearest.proofs.answered.Goals as goal
 
 pub returns-then-counts-eq0 : goal.returns-then-counts-eq0

@@ -1,6 +1,5 @@
 -- `nearest::found` meets its contract. Assumes nothing.
 use native.Mathlib.Omega.{arith}
-use borrow.Author.Rules.{rules}
 use Rattle.nearest.proofs.found.Goals as goal
 
 pub found_in-requires-2 : goal.found_in-requires-2

@@ -8,7 +8,6 @@ use Rattle.set.proofs.SetLaws.{fit_within, doubles_outlines}
 use Rattle.set.proofs.AskLaws.{starts_put}
 use Rattle.set.proofs.FrameLaws.{set_indexed, set_cleared}
 use Rattle.search.proofs.SetSearch.{indexed_searched}
-use borrow.Author.Rules.{rules}
 use Rattle.nearest.proofs.found_in.Goals as goal
 
 pub search-best-requires : goal.search-best-requires

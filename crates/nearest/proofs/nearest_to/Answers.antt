@@ -2,7 +2,6 @@
 use mathlib.Core.Path.{sym, ◌∙◌}
 use Rattle.set.proofs.AskLaws.{query_passed, query_worked, query_refused}
 use Rattle.nearest.specs.Answers.{nearest_outcome}
-use borrow.Author.Rules.{rules}
 use Rattle.nearest.proofs.nearest_to.Goals as goal
 
 pub answered-requires : goal.answered-requires

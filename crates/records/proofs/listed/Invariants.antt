@@ -1,15 +1,10 @@
 -- `records::listed` meets its contract. Assumes nothing.
-use Rattle.lists.proofs.FrontLaws.{front_more_run, front_run}
-use Rattle.records.proofs.RecordLaws.{length_blank}
 use Rattle.records.specs.Records.{node_in, blank_nodes}
 use Rattle.lists.specs.Lists.{run}
-use lib.ListN.{length, drop, length-set}
+use lib.ListN.{length, drop}
 use mathlib.Core.List.{◌++◌}
 use Prim.Native.Nat.{◌≤◌, ◌-◌}
-use mathlib.Core.Path.{◌≡◌, ap, ◌∙◌}
-use native.Mathlib.Nat.{le_antisymm}
-use native.Mathlib.Omega.{arith}
-use borrow.Author.Rules.{rules}
+use mathlib.Core.Path.{◌≡◌}
 use Rattle.records.proofs.listed.Given as goal
 
 abbrev pub invariant-loop-i : goal.invariant-loop-i

@@ -1,6 +1,5 @@
 -- `records::node_in` meets its contract. Assumes nothing.
 use Rattle.records.specs.Records.{node_in}
-use borrow.Author.Rules.{rules}
 use Rattle.records.proofs.node_in.Goals as goal
 
 pub returns : goal.returns

@@ -1,6 +1,5 @@
 -- `records::nodes_tested` meets its contract. Assumes nothing.
 use Rattle.records.specs.Records.{nodes_tested}
-use borrow.Author.Rules.{rules}
 use Rattle.records.proofs.nodes_tested.Goals as goal
 
 pub returns : goal.returns

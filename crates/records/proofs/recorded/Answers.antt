@@ -3,7 +3,6 @@ use Rattle.index.proofs.GrowLaws.{boxes_passed, accepted_of, index_nodes, grown_
 use Rattle.index.specs.Buffer.{buffer}
 use Rattle.records.proofs.RecordLaws.{recorded_grown}
 use native.Mathlib.Omega.{arith}
-use borrow.Author.Rules.{rules}
 use Rattle.records.proofs.recorded.Goals as goal
 
 pub grow-count-requires : goal.grow-count-requires

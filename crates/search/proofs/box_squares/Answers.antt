@@ -1,5 +1,4 @@
 -- `search::box_squares` meets its contract. Assumes nothing.
-use borrow.Author.Rules.{rules}
 use Rattle.search.proofs.box_squares.Goals as goal
 
 pub returns : goal.returns

@@ -1,5 +1,4 @@
 -- `search::gap` meets its contract. Assumes nothing.
-use borrow.Author.Rules.{rules}
 use Rattle.boundary.specs.Boxes.{gap_squares_of}
 use Rattle.search.proofs.gap.Goals as goal
 

@@ -1,11 +1,6 @@
 -- `search::look` meets its contract: the best so far and the items that are left give the best of all. Assumes nothing.
-use mathlib.Core.Path.{◌≡◌}
-use Prim.Native.Nat.{◌+◌, ◌-◌, ◌≤◌}
-use Rattle.lists.specs.Lists.{run, fold}
-use Rattle.nodes.specs.Layout.{item_at}
 use Rattle.set.specs.Set.{outlines_of}
 use Rattle.search.specs.Least.{magnitude_at}
-use Rattle.search.specs.Walk.{improved, Clear, best_of}
 use borrow.Author.Rules.{rules}
 use Rattle.search.proofs.LookLaws.{look_first, look_item, look_next, look_end}
 use Rattle.search.proofs.look.Goals as goal

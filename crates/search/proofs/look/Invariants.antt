@@ -6,8 +6,6 @@ use Rattle.nodes.specs.Layout.{item_at}
 use Rattle.set.specs.Set.{outlines_of}
 use Rattle.search.specs.Least.{magnitude_at}
 use Rattle.search.specs.Walk.{improved, Clear, best_of}
-use borrow.Author.Rules.{rules}
-use Rattle.search.proofs.LookLaws.{look_first, look_item, look_next, look_end}
 use Rattle.search.proofs.look.Given as goal
 
 abbrev pub invariant-loop-i : goal.invariant-loop-i

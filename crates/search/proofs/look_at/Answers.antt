@@ -1,5 +1,4 @@
 -- `search::look_at` meets its contract: an outline that is left out is farther than the best. Assumes nothing.
-use borrow.Author.Rules.{rules}
 use Rattle.boundary.proofs.KnownLaws.{owned_point}
 use Rattle.set.specs.Set.{outlines_of}
 use Rattle.search.proofs.LookLaws.{outline_fit, box_left_out, point_left_out, looked_at}

@@ -5,13 +5,12 @@ use native.Mathlib.Omega.{arith}
 use lib.ListN.{length}
 use Rattle.boundary.proofs.KnownLaws.{owned_point}
 use Rattle.boundary.proofs.GapLaws.{squares_number}
-use Rattle.search.specs.Heap.{entry_at, total_weight}
 use Rattle.search.proofs.HeapLaws.{heaped_none}
 use Rattle.index.specs.Buffer.{buffer}
 use Rattle.set.specs.Set.{outlines_of}
 use Rattle.set.proofs.SetLaws.{outlines_length}
 use Rattle.search.specs.Least.{magnitude_at}
-use Rattle.search.proofs.SearchLaws.{size_of, Searching, searching_few, popped_less, looked_within, searching_leaf, children_small, opened_less, searching_inner, upto_above, upto_none}
+use Rattle.search.proofs.SearchLaws.{searching_few, popped_less, looked_within, searching_leaf, children_small, opened_less, searching_inner, upto_above, upto_none}
 use Rattle.search.proofs.SetSearch.{most, magnitude_numbers, set_search_first, set_search_end}
 use borrow.Author.Rules.{rules}
 use Rattle.search.proofs.search_in.Goals as goal

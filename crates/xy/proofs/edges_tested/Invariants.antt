@@ -1,22 +1,14 @@
 -- `xy::edges_tested` meets its contract: what was summed so far and the edges that are left give both answers. Assumes nothing.
-use mathlib.Core.Path.{◌≡◌, sym, ap, ◌∙◌}
+use mathlib.Core.Path.{◌≡◌}
 use mathlib.Core.Bool.{Bool, false, ◌||◌}
-use mathlib.Core.List.{List}
-use Prim.Native.Nat.{ℕ, ◌+◌, ◌-◌, ◌≤◌, ◌<◌}
-use native.Mathlib.Nat.{sub-zero}
-use native.Mathlib.Omega.{arith}
-use borrow.Author.Rules.{rules}
-use borrow.Author.Tests.{eq-eqb, ne_eqb}
-use lib.Ieee.{Float, binary64, add, of_bits}
-use Rattle.boundary.specs.declared.Point.{Point}
+use Prim.Native.Nat.{◌-◌, ◌<◌}
+use lib.Ieee.{Float, binary64, add}
 use Rattle.boundary.specs.declared.Edge.{Edge}
 use Rattle.lists.specs.Lists.{run, fold, any, total}
 use Rattle.boundary.specs.Outline.{same_point}
-use Rattle.lists.proofs.FoldLaws.{fold_run_next, fold_run_end, fold_found}
-use Rattle.accept.specs.Area.{shoelace_term, area_of}
-use Rattle.accept.specs.Verdicts.{edges_verdict}
+use Rattle.accept.specs.Area.{shoelace_term}
 use Rattle.xy.specs.Outlines.{vertex_from}
-use Rattle.xy.proofs.MakingLaws.{edge_from, edges_from}
+use Rattle.xy.proofs.MakingLaws.{edge_from}
 use Rattle.xy.proofs.edges_tested.Given as goal
 
 abbrev joins : Edge → Bool

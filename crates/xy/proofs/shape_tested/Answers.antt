@@ -1,7 +1,6 @@
 -- `xy::shape_tested` meets its contract: the numbers are on the grid, so that the counts and the edges decide. Assumes nothing.
 use mathlib.Core.Path.{ap, ◌∙◌}
 use Prim.Native.Nat.{ℕ}
-use borrow.Author.Rules.{rules}
 use borrow.Author.Tests.{lt-ltb, le-ltb}
 use lib.Dec.{ltb}
 use Rattle.xy.proofs.NumberLaws.{count_from, numbers_on_grid}

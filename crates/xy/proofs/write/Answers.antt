@@ -1,10 +1,10 @@
 -- `xy::write` meets its contract: the points so far stand at the front, and the places past them are as they were. Assumes nothing.
-use mathlib.Core.Path.{◌≡◌, refl, sym, ap, ◌∙◌}
+use mathlib.Core.Path.{refl, sym, ap, ◌∙◌}
 use mathlib.Core.List.{◌++◌}
-use Prim.Native.Nat.{ℕ, ◌≤◌, ◌-◌, ◌*◌}
+use Prim.Native.Nat.{ℕ, ◌*◌}
 use native.Mathlib.Nat.{le_antisymm}
 use borrow.Author.Rules.{rules}
-use lib.ListN.{length, drop, length-set}
+use lib.ListN.{drop, length-set}
 use Rattle.lists.specs.Lists.{run}
 use Rattle.geometry.specs.Making.{coordinates_of}
 use Rattle.geometry.proofs.WriteLaws.{write_more}

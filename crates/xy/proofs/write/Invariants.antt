@@ -1,14 +1,11 @@
 -- `xy::write` meets its contract: the points so far stand at the front, and the places past them are as they were. Assumes nothing.
-use mathlib.Core.Path.{◌≡◌, refl, sym, ap, ◌∙◌}
+use mathlib.Core.Path.{◌≡◌}
 use mathlib.Core.List.{◌++◌}
-use Prim.Native.Nat.{ℕ, ◌≤◌, ◌-◌, ◌*◌}
-use native.Mathlib.Nat.{le_antisymm}
-use borrow.Author.Rules.{rules}
-use lib.ListN.{length, drop, length-set}
+use Prim.Native.Nat.{◌≤◌, ◌-◌, ◌*◌}
+use lib.ListN.{length, drop}
 use Rattle.lists.specs.Lists.{run}
 use Rattle.geometry.specs.Making.{coordinates_of}
-use Rattle.geometry.proofs.WriteLaws.{write_more}
-use Rattle.xy.proofs.MakingLaws.{point_from, write_from}
+use Rattle.xy.proofs.MakingLaws.{point_from}
 use Rattle.xy.proofs.write.Given as goal
 
 abbrev pub invariant-loop-i : goal.invariant-loop-i

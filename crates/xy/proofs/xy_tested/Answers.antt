@@ -1,6 +1,5 @@
 -- `xy::xy_tested` meets its contract. Assumes nothing.
 use mathlib.Core.Path.{sym, ap, ◌∙◌}
-use borrow.Author.Rules.{rules}
 use Rattle.accept.specs.declared.Test.{Test}
 use Rattle.accept.specs.Refusals.{given}
 use Rattle.accept.proofs.TestLaws.{given_failed}

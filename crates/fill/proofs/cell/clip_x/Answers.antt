@@ -5,7 +5,6 @@ use Rattle.clip.proofs.StageLaws.{begins, empty}
 use Rattle.clip.proofs.ShortenedLaws.{shortened_clips}
 use Rattle.fill.specs.Fill.{high_x_of}
 use Rattle.clip.proofs.LentLaws.{front_lines}
-use borrow.Author.Rules.{rules}
 use Rattle.fill.proofs.cell.clip_x.Goals as goal
 
 pub returns-then-a-eq0 : goal.returns-then-a-eq0

@@ -2,7 +2,6 @@
 use mathlib.Core.Path.{refl, ◌∙◌}
 use Rattle.clip.proofs.StageLaws.{empty}
 use Rattle.fill.specs.Fill.{low_y_of, high_y_of}
-use borrow.Author.Rules.{rules}
 use Rattle.fill.proofs.cell.clip_y.Goals as goal
 
 pub returns-then-b-eq0 : goal.returns-then-b-eq0

@@ -5,7 +5,6 @@ use native.Mathlib.Omega.{arith}
 use Rattle.clip.proofs.LentLaws.{rest_kept}
 use Rattle.fill.specs.Fill.{fill_of, long_of}
 use Rattle.fill.specs.Answers.{filled}
-use borrow.Author.Rules.{rules}
 use Rattle.fill.proofs.cell.clipped.Goals as goal
 
 pub write_chords-k-requires : goal.write_chords-k-requires

@@ -1,6 +1,5 @@
 -- `fill::cell::counted` meets its contract. Assumes nothing.
 use Rattle.clip.proofs.StageLaws.{counted_long, counted_short}
-use borrow.Author.Rules.{rules}
 use Rattle.fill.proofs.cell.counted.Goals as goal
 
 pub returns-then-half-beyond : goal.returns-then-half-beyond

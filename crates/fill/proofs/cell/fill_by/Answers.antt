@@ -5,7 +5,6 @@ use lib.ListN.{length}
 use Rattle.fill.proofs.TestedLaws.{fill_passed, tested_some}
 use Rattle.fill.proofs.OutlineWithin.{within_filled}
 use Rattle.fill.proofs.ChordLaws.{cell_strip}
-use borrow.Author.Rules.{rules}
 use Rattle.fill.proofs.cell.fill_by.Goals as goal
 
 pub sum_own-requires : goal.sum_own-requires

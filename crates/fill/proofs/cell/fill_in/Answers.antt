@@ -6,7 +6,6 @@ use lib.ListN.{length}
 use Rattle.number.specs.Exact.{zeroᶠ}
 use Rattle.lists.proofs.FrontLaws.{zeros_past}
 use Rattle.fill.specs.Answers.{half_of}
-use borrow.Author.Rules.{rules}
 use Rattle.fill.proofs.cell.fill_in.Goals as goal
 
 pub fill_by-answer-requires : goal.fill_by-answer-requires

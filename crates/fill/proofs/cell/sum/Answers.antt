@@ -1,11 +1,9 @@
 -- `fill::cell::sum` meets its contract: the sum so far and the lines that are left give the whole. Assumes nothing.
-use mathlib.Core.Path.{◌≡◌, sym, ◌∙◌}
-use Prim.Native.Nat.{◌≤◌, ◌-◌}
+use mathlib.Core.Path.{sym, ◌∙◌}
 use native.Mathlib.Nat.{sub-zero}
 use lib.Ieee.{binary64, add, of_bits}
 use Rattle.lists.proofs.FoldLaws.{fold_run_next, fold_run_end}
-use Rattle.lists.specs.Lists.{fold, total}
-use Rattle.clip.specs.Lent.{lines_from}
+use Rattle.lists.specs.Lists.{total}
 use Rattle.fill.specs.Fill.{xdy_of}
 use borrow.Author.Rules.{rules}
 use Rattle.fill.proofs.cell.sum.Goals as goal

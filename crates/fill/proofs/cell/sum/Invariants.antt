@@ -1,13 +1,10 @@
 -- `fill::cell::sum` meets its contract: the sum so far and the lines that are left give the whole. Assumes nothing.
-use mathlib.Core.Path.{◌≡◌, sym, ◌∙◌}
+use mathlib.Core.Path.{◌≡◌}
 use Prim.Native.Nat.{◌≤◌, ◌-◌}
-use native.Mathlib.Nat.{sub-zero}
-use lib.Ieee.{binary64, add, of_bits}
-use Rattle.lists.proofs.FoldLaws.{fold_run_next, fold_run_end}
+use lib.Ieee.{binary64, add}
 use Rattle.lists.specs.Lists.{fold, total}
 use Rattle.clip.specs.Lent.{lines_from}
 use Rattle.fill.specs.Fill.{xdy_of}
-use borrow.Author.Rules.{rules}
 use Rattle.fill.proofs.cell.sum.Given as goal
 
 abbrev pub invariant-loop-i : goal.invariant-loop-i

@@ -1,15 +1,11 @@
 -- `fill::cell::sum_own` meets its contract: the sum so far and the edges that are left give the whole. Assumes nothing.
-use mathlib.Core.Path.{◌≡◌, sym, ap, ◌∙◌}
+use mathlib.Core.Path.{◌≡◌}
 use Prim.Native.Nat.{◌-◌, ◌<◌}
-use native.Mathlib.Nat.{sub-zero}
-use lib.Ieee.{Float, binary64, add, of_bits}
+use lib.Ieee.{Float, binary64, add}
 use Rattle.boundary.specs.declared.Edge.{Edge}
 use Rattle.boundary.specs.Outline.{count, vertex_at, edge_at, edges}
-use Rattle.boundary.proofs.OutlineLaws.{next_edge, last_edge}
 use Rattle.lists.specs.Lists.{run, fold, total}
-use Rattle.lists.proofs.FoldLaws.{fold_run_next, fold_run_end}
 use Rattle.fill.specs.Fill.{xdy_of}
-use borrow.Author.Rules.{rules}
 use Rattle.fill.proofs.cell.sum_own.Given as goal
 
 abbrev summed : Float → Edge → Float

@@ -4,7 +4,6 @@ use mathlib.Core.Bool.{true, false}
 use native.Mathlib.Omega.{arith}
 use borrow.Author.Tests.{lt-ltb}
 use Rattle.clip.proofs.StageLaws.{place_le, short}
-use borrow.Author.Rules.{rules}
 use Rattle.fill.proofs.cell.summed.Goals as goal
 
 pub returns-then-half-n : goal.returns-then-half-n

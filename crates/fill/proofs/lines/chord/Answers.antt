@@ -1,6 +1,5 @@
 -- `fill::lines::chord` meets its contract. Assumes nothing.
 use Rattle.clip.proofs.StripLaws.{edge_drawn, low_chord, high_chord}
-use borrow.Author.Rules.{rules}
 use Rattle.fill.proofs.lines.chord.Goals as goal
 
 pub returns-then-i-l : goal.returns-then-i-l

@@ -1,12 +1,9 @@
 -- `fill::lines::outside_end` meets its contract: the vertices from i up to j are outside. Assumes nothing.
-use mathlib.Core.Path.{◌≡◌, sym, ◌∙◌}
+use mathlib.Core.Path.{◌≡◌}
 use mathlib.Core.Bool.{false}
 use Prim.Native.Nat.{ℕ, ◌-◌, ◌≤◌, ◌<◌}
-use native.Mathlib.Omega.{arith}
 use Rattle.boundary.specs.Outline.{count, vertex_at}
 use Rattle.clip.specs.Clip.{in_half_plane}
-use borrow.Author.Rules.{rules}
-use Rattle.fill.proofs.ChordLaws.{up_to_itself, up_to_next}
 use Rattle.fill.proofs.lines.outside_end.Given as goal
 
 abbrev pub invariant-loop-j : goal.invariant-loop-j

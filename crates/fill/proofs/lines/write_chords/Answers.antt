@@ -1,12 +1,9 @@
 -- `fill::lines::write_chords` meets its contract: the chords so far, with the edges that are left, are the outline's edges shortened. Assumes nothing.
-use mathlib.Core.List.{◌++◌}
-use Prim.Native.Nat.{◌*◌, ◌-◌, ◌≤◌}
+use Prim.Native.Nat.{◌≤◌}
 use native.Mathlib.Nat.{le_antisymm}
 use native.Mathlib.Omega.{arith}
-use Rattle.lists.specs.Lists.{run}
-use Rattle.boundary.specs.Outline.{count, edge_at, edges}
-use Rattle.clip.specs.Lent.{lines_from, Beside}
-use Rattle.clip.specs.Shortened.{Shortened}
+use Rattle.boundary.specs.Outline.{count}
+use Rattle.clip.specs.Lent.{lines_from}
 use Rattle.clip.proofs.LentLaws.{unchanged, then, front_lines}
 use borrow.Author.Rules.{rules}
 use Rattle.clip.proofs.StripLaws.{chords_begin, chord_more, chords_end}

@@ -1,6 +1,5 @@
 -- `fill::tests::fill_tested` meets its contract. Assumes nothing.
 use Rattle.fill.specs.Answers.{fill_tested}
-use borrow.Author.Rules.{rules}
 use Rattle.fill.proofs.tests.fill_tested.Goals as goal
 
 pub returns : goal.returns

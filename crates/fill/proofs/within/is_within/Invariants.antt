@@ -1,13 +1,7 @@
 -- `fill::within::is_within` meets its contract: the vertices so far are in the cell. Assumes nothing.
-use mathlib.Core.Path.{sym}
-use mathlib.Core.Bool.{true≢false}
 use Prim.Native.Nat.{ℕ, ◌-◌, ◌≤◌, ◌<◌}
-use native.Mathlib.Omega.{arith}
-use borrow.Author.Tests.{not-false}
-use Rattle.lists.proofs.RunLaws.{one_more}
 use Rattle.boundary.specs.Boxes.{Inside}
 use Rattle.boundary.specs.Outline.{count, vertex_at}
-use borrow.Author.Rules.{rules}
 use Rattle.fill.proofs.within.is_within.Given as goal
 
 abbrev pub invariant-loop-i : goal.invariant-loop-i

@@ -1,7 +1,5 @@
 -- `fill::within::row_within` meets its contract: the vertices so far are in the cell. Assumes nothing.
-use mathlib.Core.Path.{◌≡◌}
-use mathlib.Core.Bool.{true}
-use Prim.Native.Nat.{ℕ, ◌+◌, ◌-◌, ◌≤◌, ◌<◌}
+use Prim.Native.Nat.{◌+◌}
 use native.Mathlib.Omega.{arith}
 use Rattle.lists.proofs.RunLaws.{one_more}
 use Rattle.boundary.specs.Boxes.{Inside}

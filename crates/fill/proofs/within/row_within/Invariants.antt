@@ -2,12 +2,8 @@
 use mathlib.Core.Path.{◌≡◌}
 use mathlib.Core.Bool.{true}
 use Prim.Native.Nat.{ℕ, ◌+◌, ◌-◌, ◌≤◌, ◌<◌}
-use native.Mathlib.Omega.{arith}
-use Rattle.lists.proofs.RunLaws.{one_more}
 use Rattle.boundary.specs.Boxes.{Inside}
 use Rattle.boundary.specs.Outline.{vertex_at}
-use Rattle.lists.proofs.FoldLaws.{and_both}
-use borrow.Author.Rules.{rules}
 use Rattle.fill.proofs.within.row_within.Given as goal
 
 abbrev pub invariant-loop-j : goal.invariant-loop-j

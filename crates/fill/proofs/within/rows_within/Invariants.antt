@@ -1,11 +1,7 @@
 -- `fill::within::rows_within` meets its contract: the rows so far are in the cell. Assumes nothing.
 use Prim.Native.Nat.{ℕ, ◌-◌, ◌≤◌, ◌<◌}
-use native.Mathlib.Omega.{arith}
-use borrow.Author.Tests.{not-false}
 use Rattle.boundary.specs.Boxes.{Inside}
 use Rattle.boundary.specs.Outline.{count, vertex_at}
-use Rattle.fill.proofs.WithinLaws.{eight_more}
-use borrow.Author.Rules.{rules}
 use Rattle.fill.proofs.within.rows_within.Given as goal
 
 abbrev pub invariant-loop-i : goal.invariant-loop-i

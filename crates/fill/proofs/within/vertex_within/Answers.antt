@@ -1,6 +1,5 @@
 -- `fill::within::vertex_within` meets its contract. Assumes nothing.
 use Rattle.fill.proofs.WithinLaws.{compared_inside}
-use borrow.Author.Rules.{rules}
 use Rattle.fill.proofs.within.vertex_within.Goals as goal
 
 pub returns : goal.returns

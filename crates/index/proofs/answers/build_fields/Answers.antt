@@ -1,5 +1,4 @@
 -- `index::answers::build_fields` meets its contract. Assumes nothing.
-use borrow.Author.Rules.{rules}
 use Rattle.index.proofs.answers.build_fields.Goals as goal
 
 pub returns-in-Refused : goal.returns-in-Refused

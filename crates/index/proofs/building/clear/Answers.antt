@@ -1,7 +1,6 @@
 -- `index::building::clear` meets its contract. Assumes nothing.
 use Rattle.index.specs.Buffer.{cleared}
 use Rattle.index.proofs.GrowLaws.{same_buffer}
-use borrow.Author.Rules.{rules}
 use Rattle.index.proofs.building.clear.Goals as goal
 
 pub returns : goal.returns

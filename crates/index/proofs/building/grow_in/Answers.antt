@@ -6,7 +6,6 @@ use lib.ListN.{drop}
 use native.Mathlib.Omega.{arith}
 use mathlib.Core.List.{◌++◌}
 use mathlib.Core.Path.{sym, ap}
-use borrow.Author.Rules.{rules}
 use Rattle.index.proofs.building.grow_in.Goals as goal
 
 pub slice_bounds-count_up-end-2 : goal.slice_bounds-count_up-end-2

@@ -4,7 +4,6 @@ use Rattle.index.proofs.GrowLaws.{leaf_grown}
 use lib.Seq.{length-take-le}
 use mathlib.Core.Path.{sym}
 use native.Mathlib.Omega.{arith}
-use borrow.Author.Rules.{rules}
 use Rattle.index.proofs.building.grow_leaf.Goals as goal
 
 pub slice_bounds-count_up-end-2 : goal.slice_bounds-count_up-end-2

@@ -2,13 +2,11 @@
 use Rattle.boxes.specs.BoxLists.{box_count, wide_at}
 use Rattle.boundary.specs.Boxes.{hull}
 use Rattle.tree.specs.Tree.{hull_of}
-use Rattle.lists.specs.Lists.{run, fold}
 use Rattle.lists.proofs.FoldLaws.{fold_run_next, fold_run_end}
 use Rattle.sorts.proofs.PartLaws.{sort_sorted, run_ascends}
 use lib.Dec.{leb}
 use native.Mathlib.Nat.{sub-zero}
-use Prim.Native.Nat.{◌≤◌, ◌-◌}
-use mathlib.Core.Path.{◌≡◌, sym, ◌∙◌}
+use mathlib.Core.Path.{sym, ◌∙◌}
 use borrow.Author.Rules.{rules}
 use Rattle.index.proofs.building.hull_wide.Goals as goal
 

@@ -1,13 +1,12 @@
 -- `index::refusals::any_unfit` meets its contract: what was found so far and the boxes that are left give the answer. Assumes nothing.
 use Rattle.boundary.specs.Boxes.{box_fits}
-use Rattle.boxes.specs.BoxLists.{box_count, box_at, boxes_of}
-use Rattle.lists.specs.Lists.{run, fold, any}
+use Rattle.boxes.specs.BoxLists.{boxes_of}
+use Rattle.lists.specs.Lists.{any}
 use Rattle.lists.proofs.FoldLaws.{fold_run_next, fold_run_end}
 use Rattle.boundary.specs.declared.Bounds.{Bounds}
 use native.Mathlib.Nat.{sub-zero}
-use Prim.Native.Nat.{◌≤◌, ◌-◌}
 use mathlib.Core.Bool.{Bool, not, ◌||◌}
-use mathlib.Core.Path.{◌≡◌, sym, ◌∙◌}
+use mathlib.Core.Path.{sym, ◌∙◌}
 use borrow.Author.Rules.{rules}
 use Rattle.index.proofs.refusals.any_unfit.Goals as goal
 

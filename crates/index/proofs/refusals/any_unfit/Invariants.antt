@@ -2,13 +2,10 @@
 use Rattle.boundary.specs.Boxes.{box_fits}
 use Rattle.boxes.specs.BoxLists.{box_count, box_at, boxes_of}
 use Rattle.lists.specs.Lists.{run, fold, any}
-use Rattle.lists.proofs.FoldLaws.{fold_run_next, fold_run_end}
 use Rattle.boundary.specs.declared.Bounds.{Bounds}
-use native.Mathlib.Nat.{sub-zero}
 use Prim.Native.Nat.{◌≤◌, ◌-◌}
 use mathlib.Core.Bool.{Bool, not, ◌||◌}
-use mathlib.Core.Path.{◌≡◌, sym, ◌∙◌}
-use borrow.Author.Rules.{rules}
+use mathlib.Core.Path.{◌≡◌}
 use Rattle.index.proofs.refusals.any_unfit.Given as goal
 
 abbrev step : Bool → Bounds → Bool

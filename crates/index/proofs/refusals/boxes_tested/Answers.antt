@@ -2,7 +2,6 @@
 use Rattle.index.specs.Answers.{boxes_tested}
 use borrow.Author.Tests.{lt-ltb, le-ltb, eq-eqb, ne_eqb}
 use mathlib.Core.Path.{sym, ◌∙◌}
-use borrow.Author.Rules.{rules}
 use Rattle.index.proofs.refusals.boxes_tested.Goals as goal
 
 pub returns-then-boxes-gt4096 : goal.returns-then-boxes-gt4096

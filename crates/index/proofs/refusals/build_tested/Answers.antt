@@ -1,5 +1,4 @@
 -- `index::refusals::build_tested` meets its contract. Assumes nothing.
-use borrow.Author.Rules.{rules}
 use Rattle.index.proofs.refusals.build_tested.Goals as goal
 
 pub returns : goal.returns

@@ -1,5 +1,4 @@
 -- `nearest::answers::nearest_fields` meets its contract. Assumes nothing.
-use borrow.Author.Rules.{rules}
 use Rattle.nearest.proofs.answers.nearest_fields.Goals as goal
 
 pub returns-in-Refused : goal.returns-in-Refused

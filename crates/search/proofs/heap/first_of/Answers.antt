@@ -1,5 +1,4 @@
 -- `search::heap::first_of` meets its contract. Assumes nothing.
-use borrow.Author.Rules.{rules}
 use borrow.Author.Tests.{lt-ltb, le-ltb}
 use Rattle.search.specs.Sifts.{earlier_of}
 use Rattle.search.proofs.heap.first_of.Goals as goal

@@ -1,6 +1,5 @@
 -- `search::heap::is_rising` meets its contract. Assumes nothing.
 use native.Mathlib.Omega.{arith}
-use borrow.Author.Rules.{rules}
 use borrow.Author.Tests.{lt-ltb, le-ltb}
 use Rattle.search.specs.Sifts.{rises}
 use Rattle.search.proofs.heap.is_rising.Goals as goal

@@ -3,7 +3,6 @@ use mathlib.Core.Path.{◌≡◌}
 use mathlib.Core.Logic.{⊎_elim}
 use Prim.Native.Nat.{◌+◌, ◌*◌}
 use native.Mathlib.Omega.{arith}
-use borrow.Author.Rules.{rules}
 use Rattle.search.specs.Heap.{entry_at}
 use Rattle.search.specs.Sifts.{least_child}
 use Rattle.search.proofs.SiftLaws.{first_place, least_leaf}

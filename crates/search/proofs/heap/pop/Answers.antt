@@ -2,7 +2,6 @@
 use mathlib.Core.Path.{ap}
 use Prim.Native.Nat.{◌-◌}
 use native.Mathlib.Omega.{arith}
-use borrow.Author.Rules.{rules}
 use Rattle.search.specs.Sifts.{HeapLists}
 use Rattle.search.proofs.Contents.{exchanged_swap}
 use Rattle.search.proofs.HeapLaws.{pop_sinking, popped}

@@ -1,11 +1,9 @@
 -- `search::heap::rise` meets its contract: while the entry is before its parent, the two are exchanged. The measure is its place. Assumes nothing.
 use mathlib.Core.Path.{sym, ap, ◌∙◌}
-use Prim.Native.Nat.{◌+◌, ◌≤◌}
 use native.Mathlib.Omega.{arith}
 use borrow.Author.Rules.{rules}
-use Rattle.search.specs.Heap.{entry_at}
-use Rattle.search.specs.Sifts.{HeapLists, Rising}
-use Rattle.search.proofs.SiftLaws.{Moving, moving, rises_says, risen, rise_turn}
+use Rattle.search.specs.Sifts.{HeapLists}
+use Rattle.search.proofs.SiftLaws.{moving, rises_says, risen, rise_turn}
 use Rattle.search.proofs.heap.rise.Goals as goal
 
 pub loop-p-init : goal.loop-p-init

@@ -1,11 +1,8 @@
 -- `search::heap::rise` meets its contract: while the entry is before its parent, the two are exchanged. The measure is its place. Assumes nothing.
-use mathlib.Core.Path.{sym, ap, ◌∙◌}
 use Prim.Native.Nat.{◌+◌, ◌≤◌}
-use native.Mathlib.Omega.{arith}
-use borrow.Author.Rules.{rules}
 use Rattle.search.specs.Heap.{entry_at}
-use Rattle.search.specs.Sifts.{HeapLists, Rising}
-use Rattle.search.proofs.SiftLaws.{Moving, moving, rises_says, risen, rise_turn}
+use Rattle.search.specs.Sifts.{Rising}
+use Rattle.search.proofs.SiftLaws.{Moving}
 use Rattle.search.proofs.heap.rise.Given as goal
 
 abbrev pub invariant-loop-p : goal.invariant-loop-p

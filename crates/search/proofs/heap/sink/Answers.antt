@@ -1,11 +1,9 @@
 -- `search::heap::sink` meets its contract: while a child is before the entry, the entry is exchanged with the lesser child. The measure is how many places are past it. Assumes nothing.
-use mathlib.Core.Path.{◌≡◌, sym, ap, ◌∙◌}
-use Prim.Native.Nat.{◌-◌, ◌≤◌}
+use mathlib.Core.Path.{sym, ap, ◌∙◌}
 use native.Mathlib.Omega.{arith}
 use borrow.Author.Rules.{rules}
-use Rattle.search.specs.Heap.{entry_at}
-use Rattle.search.specs.Sifts.{HeapLists, least_child, Sinking}
-use Rattle.search.proofs.SiftLaws.{Moving, moving, sunk, least_place, sink_turn}
+use Rattle.search.specs.Sifts.{HeapLists}
+use Rattle.search.proofs.SiftLaws.{moving, sunk, least_place, sink_turn}
 use Rattle.search.proofs.heap.sink.Goals as goal
 
 pub loop-c-init : goal.loop-c-init

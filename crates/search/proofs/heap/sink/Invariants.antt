@@ -1,11 +1,9 @@
 -- `search::heap::sink` meets its contract: while a child is before the entry, the entry is exchanged with the lesser child. The measure is how many places are past it. Assumes nothing.
-use mathlib.Core.Path.{◌≡◌, sym, ap, ◌∙◌}
+use mathlib.Core.Path.{◌≡◌}
 use Prim.Native.Nat.{◌-◌, ◌≤◌}
-use native.Mathlib.Omega.{arith}
-use borrow.Author.Rules.{rules}
 use Rattle.search.specs.Heap.{entry_at}
-use Rattle.search.specs.Sifts.{HeapLists, least_child, Sinking}
-use Rattle.search.proofs.SiftLaws.{Moving, moving, sunk, least_place, sink_turn}
+use Rattle.search.specs.Sifts.{least_child, Sinking}
+use Rattle.search.proofs.SiftLaws.{Moving}
 use Rattle.search.proofs.heap.sink.Given as goal
 
 abbrev pub invariant-loop-c : goal.invariant-loop-c

@@ -2,7 +2,6 @@
 use Rattle.index.specs.Buffer.{buffer}
 use Rattle.set.proofs.AskLaws.{boxes_put}
 use Rattle.set.proofs.FrameLaws.{grown_set}
-use borrow.Author.Rules.{rules}
 use Rattle.set.proofs.frame.index_in.Goals as goal
 
 pub returns : goal.returns

@@ -2,7 +2,6 @@
 use mathlib.Core.Path.{sym, ap, ◌∙◌}
 use Prim.Native.Nat.{ℕ, ◌+◌, ◌*◌}
 use native.Mathlib.Omega.{arith}
-use borrow.Author.Rules.{rules}
 use Rattle.set.specs.Set.{outlines_of}
 use Rattle.set.proofs.SetLaws.{part_within, part_is, outlines_length, outline_is, outline_past}
 use Rattle.set.proofs.outlines.outline_at.Goals as goal

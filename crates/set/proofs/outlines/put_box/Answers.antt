@@ -1,5 +1,4 @@
 -- `set::outlines::put_box` meets its contract. Assumes nothing.
-use borrow.Author.Rules.{rules}
 use Rattle.set.proofs.outlines.put_box.Goals as goal
 
 pub returns : goal.returns

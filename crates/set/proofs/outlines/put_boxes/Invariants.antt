@@ -1,20 +1,15 @@
 -- `set::outlines::put_boxes` meets its contract: the boxes so far stand at the front. Assumes nothing.
-use mathlib.Core.Path.{◌≡◌, refl, ap, ◌∙◌}
+use mathlib.Core.Path.{◌≡◌}
 use mathlib.Core.List.{List, flat_map}
-use Prim.Native.Nat.{ℕ, ◌+◌, ◌-◌, ◌*◌, ◌≤◌}
-use native.Mathlib.Nat.{le_antisymm}
-use native.Mathlib.Omega.{arith}
+use Prim.Native.Nat.{◌-◌, ◌*◌, ◌≤◌}
 use lib.ListN.{length}
-use lib.Seq.{sets, length-sets}
+use lib.Seq.{sets}
 use lib.Ieee.{Float}
 use Rattle.lists.specs.Lists.{run}
 use Rattle.boundary.specs.Outline.{vertices}
 use Rattle.geometry.specs.Polygon.{bounds_of}
 use Rattle.boxes.specs.BoxLists.{box_numbers}
-use Rattle.lists.proofs.StoreLaws.{flat_more}
-use Rattle.set.specs.Set.{start_of, outline_at, outlines_of, set_boxes}
-use Rattle.set.proofs.SetLaws.{start_next, part_within, part_is}
-use borrow.Author.Rules.{rules}
+use Rattle.set.specs.Set.{start_of, outline_at}
 use Rattle.set.proofs.outlines.put_boxes.Given as goal
 
 abbrev boxed : List Float → List Float

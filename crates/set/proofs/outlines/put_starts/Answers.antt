@@ -1,10 +1,9 @@
 -- `set::outlines::put_starts` meets its contract: the starts so far stand at the front. Assumes nothing.
-use mathlib.Core.Path.{◌≡◌, refl, ap, ◌∙◌}
-use Prim.Native.Nat.{◌-◌, ◌≤◌}
+use mathlib.Core.Path.{refl, ap, ◌∙◌}
 use native.Mathlib.Nat.{le_antisymm}
 use native.Mathlib.Omega.{arith}
 use lib.ListN.{length}
-use lib.Seq.{sets, length-sets}
+use lib.Seq.{length-sets}
 use Rattle.lists.proofs.StoreLaws.{sets_more}
 use Rattle.lists.specs.Lists.{run}
 use Rattle.set.specs.Set.{start_of}

@@ -1,15 +1,10 @@
 -- `set::outlines::put_starts` meets its contract: the starts so far stand at the front. Assumes nothing.
-use mathlib.Core.Path.{◌≡◌, refl, ap, ◌∙◌}
+use mathlib.Core.Path.{◌≡◌}
 use Prim.Native.Nat.{◌-◌, ◌≤◌}
-use native.Mathlib.Nat.{le_antisymm}
-use native.Mathlib.Omega.{arith}
 use lib.ListN.{length}
-use lib.Seq.{sets, length-sets}
-use Rattle.lists.proofs.StoreLaws.{sets_more}
+use lib.Seq.{sets}
 use Rattle.lists.specs.Lists.{run}
 use Rattle.set.specs.Set.{start_of}
-use Rattle.set.proofs.SetLaws.{start_next, start_within}
-use borrow.Author.Rules.{rules}
 use Rattle.set.proofs.outlines.put_starts.Given as goal
 
 abbrev pub invariant-loop-k : goal.invariant-loop-k

@@ -1,9 +1,8 @@
 -- `set::refusals::adds_up` meets its contract: the counts so far and what is left make n. Assumes nothing.
 use mathlib.Core.Path.{◌≡◌, sym}
-use Prim.Native.Nat.{◌+◌, ◌-◌, ◌≤◌}
 use native.Mathlib.Omega.{arith}
 use borrow.Author.Rules.{rules}
-use lib.ListN.{length, get_or}
+use lib.ListN.{get_or}
 use Rattle.set.specs.Set.{start_of}
 use Rattle.set.proofs.SetLaws.{start_next, adds_over, adds_all}
 use Rattle.set.proofs.refusals.adds_up.Goals as goal

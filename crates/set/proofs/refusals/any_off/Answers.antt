@@ -1,12 +1,11 @@
 -- `set::refusals::any_off` meets its contract: what was found so far and the counts that are left give the answer. Assumes nothing.
-use mathlib.Core.Path.{◌≡◌, refl, sym, ◌∙◌}
+use mathlib.Core.Path.{refl, sym, ◌∙◌}
 use mathlib.Core.Bool.{Bool, cond, ◌||◌}
-use Prim.Native.Nat.{ℕ, ◌≤◌, ◌-◌}
+use Prim.Native.Nat.{ℕ}
 use borrow.Author.Rules.{rules}
 use lib.Dec.{ltb}
-use lib.ListN.{length, drop}
 use Rattle.lists.proofs.FoldLaws.{fold_drop_next, fold_drop_end}
-use Rattle.lists.specs.Lists.{fold, any}
+use Rattle.lists.specs.Lists.{any}
 use Rattle.set.proofs.refusals.any_off.Goals as goal
 
 abbrev off : Bool → ℕ → Bool

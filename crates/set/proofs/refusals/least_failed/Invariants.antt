@@ -1,17 +1,12 @@
 -- `set::refusals::least_failed` meets its contract: the least so far and the outlines that are left give the least of all. Assumes nothing.
-use mathlib.Core.Path.{◌≡◌, sym, ap, ◌∙◌}
+use mathlib.Core.Path.{◌≡◌}
 use mathlib.Core.List.{List}
-use Prim.Native.Nat.{ℕ, ◌+◌, ◌-◌, ◌*◌, ◌≤◌, min}
-use native.Mathlib.Nat.{sub-zero}
-use native.Mathlib.Omega.{arith}
-use borrow.Author.Rules.{rules}
+use Prim.Native.Nat.{ℕ, ◌-◌, ◌*◌, ◌≤◌, min}
 use lib.ListN.{length}
 use lib.Ieee.{Float}
-use Rattle.lists.proofs.FoldLaws.{fold_run_next, fold_run_end}
 use Rattle.lists.specs.Lists.{run, fold}
 use Rattle.set.specs.Set.{start_of, outline_at, outlines_of}
 use Rattle.set.specs.OnePass.{first_failed, least_failed}
-use Rattle.set.proofs.SetLaws.{start_next, part_within, part_is}
 use Rattle.set.proofs.refusals.least_failed.Given as goal
 
 abbrev step : ℕ → List Float → ℕ

@@ -1,5 +1,4 @@
 -- `set::refusals::lists_tested` meets its contract. Assumes nothing.
-use borrow.Author.Rules.{rules}
 use Rattle.set.specs.Tests.{lists_tested}
 use Rattle.set.proofs.refusals.lists_tested.Goals as goal
 

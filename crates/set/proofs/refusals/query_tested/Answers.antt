@@ -1,5 +1,4 @@
 -- `set::refusals::query_tested` meets its contract. Assumes nothing.
-use borrow.Author.Rules.{rules}
 use Rattle.set.specs.Tests.{set_query_tested}
 use Rattle.set.proofs.refusals.query_tested.Goals as goal
 

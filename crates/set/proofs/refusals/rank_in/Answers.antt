@@ -1,7 +1,6 @@
 -- `set::refusals::rank_in` meets its contract. Assumes nothing.
 use Rattle.accept.proofs.VerdictLaws.{test_of_verdict}
 use Rattle.set.proofs.OnePassLaws.{rank_first}
-use borrow.Author.Rules.{rules}
 use Rattle.set.proofs.refusals.rank_in.Goals as goal
 
 pub returns : goal.returns

@@ -1,5 +1,4 @@
 -- `set::refusals::rank_of` meets its contract: the two lines of its definition. Assumes nothing.
-use borrow.Author.Rules.{rules}
 use Rattle.set.proofs.refusals.rank_of.Goals as goal
 
 pub returns-in-Failed : goal.returns-in-Failed

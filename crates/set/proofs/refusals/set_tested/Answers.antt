@@ -1,5 +1,4 @@
 -- `set::refusals::set_tested` meets its contract. Assumes nothing.
-use borrow.Author.Rules.{rules}
 use mathlib.Core.Path.{sym, ◌∙◌}
 use Rattle.accept.specs.Refusals.{◌refusing◌when◌}
 use Rattle.set.specs.Tests.{outlines_tested, set_tested}
