@@ -168,7 +168,11 @@ def applies(edit, text):
 def elsewhere(edit, text):
     """Says which pair stands in another line than LANDED's pair did, or None."""
     crate = edit.split("/must-fail/")[0]
-    for (file, old, _), (_, mid, _) in zip(pairs_of(git("show", f"{LANDED}:{edit}")), pairs_of(text)):
+    try:
+        first = pairs_of(git("show", f"{LANDED}:{edit}"))
+    except subprocess.CalledProcessError:
+        return None  # a new edit
+    for (file, old, _), (_, mid, _) in zip(first, pairs_of(text)):
         was, now = landed(crate, file), today(crate, file)
         a, b = was.find(old), now.find(mid)
         if a < 0 or b < 0:
