@@ -4,3 +4,7 @@
 pub mod RecordLaws
 -- Records written to a lent list.
 pub mod OfferLaws
+-- The machine value of a `Recording`.
+pub mod RecordingIs
+-- A local array in memory.
+pub mod LocalArray
