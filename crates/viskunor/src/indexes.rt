@@ -33,7 +33,7 @@ pub fn vk_index_build(
     told.number
 }
 
-// The same as node records. Its proof is a walk by hand, as that of `records::offer` is.
+// The same as node records.
 pub fn vk_index_nodes(
     boxes: &[f64],
     nodes: &mut [Node],

@@ -1,0 +1,7 @@
+-- `viskunor::fills::vk_outline_fill` meets its contract. Assumes nothing.
+use mathlib.Core.Path.{ap}
+use Rattle.accept.specs.Answers.{measure_fields, in_fields}
+use Rattle.viskunor.proofs.fills.vk_outline_fill.Goals as goal
+
+pub returns : goal.returns
+returns c = rw c.measure_fields-fields.ensures (ap (in_fields measure_fields) c.fill.ensures)

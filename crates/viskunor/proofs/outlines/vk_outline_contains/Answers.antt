@@ -1,0 +1,5 @@
+-- `viskunor::outlines::vk_outline_contains` meets its contract. Assumes nothing.
+use Rattle.viskunor.proofs.outlines.vk_outline_contains.Goals as goal
+
+pub returns : goal.returns
+returns c = rw (c.count_fields-fields.ensures, c.contains.ensures)

@@ -1,0 +1,5 @@
+-- `viskunor::outlines::vk_outline_distance` meets its contract. Assumes nothing.
+use Rattle.viskunor.proofs.outlines.vk_outline_distance.Goals as goal
+
+pub returns : goal.returns
+returns c = rw (c.distance_fields-fields.ensures, c.distance.ensures)

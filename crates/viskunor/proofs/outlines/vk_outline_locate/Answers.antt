@@ -1,0 +1,5 @@
+-- `viskunor::outlines::vk_outline_locate` meets its contract. Assumes nothing.
+use Rattle.viskunor.proofs.outlines.vk_outline_locate.Goals as goal
+
+pub returns : goal.returns
+returns c = rw (c.count_fields-fields.ensures, c.locate.ensures)

@@ -1,0 +1,13 @@
+-- `viskunor::sets::vk_set_nearest` meets its contract. Assumes nothing.
+use mathlib.Core.Path.{ap}
+use Rattle.nearest.specs.declared.Nearest.{Nearest}
+use Rattle.accept.specs.Answers.{Outcome, in_fields}
+use Rattle.index.specs.Buffer.{IndexBuffer}
+use Rattle.nearest.specs.Nearest.{nearest_fields}
+use Rattle.nearest.specs.Answers.{nearest_call}
+use Rattle.viskunor.proofs.sets.vk_set_nearest.Goals as goal
+
+pub returns : goal.returns
+unfolding nearest_call
+returns c =
+    rw c.nearest_fields-told.ensures (ap (λ (o : Outcome Nearest IndexBuffer). in_fields nearest_fields o) c.nearest_to-answer.ensures)
