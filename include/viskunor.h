@@ -37,15 +37,12 @@ extern "C" {
 
 /*
  * The version of this header: as a number, 10,000 times the first part, 100
- * times the second and the third together, and as text. vk_version gives the
- * number of the library that is linked.
+ * times the second and the third together, and as text.
  *   The first part changes where a host must, the second where calls or
  *   constants are added, the third where neither is so.
  */
 #define VK_VERSION 10100
 #define VK_VERSION_TEXT "1.1.0"
-
-uint32_t vk_version(void);
 
 /*
  * Sizes. A place is room for one number.
