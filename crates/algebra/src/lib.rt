@@ -1,3 +1,3 @@
 #![tactic(auto)]
 
-// Laws only: whole-number algebra for proofs, in specs/.
+// Laws only: whole-number algebra for proofs, in specs/ and proofs/.

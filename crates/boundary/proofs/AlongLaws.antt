@@ -10,11 +10,11 @@ use lib.Dec.{T, lit≤}
 use lib.IntN.{ℤ, pos, nat_abs, ◌+ℤ◌, ◌-ℤ◌, ◌*ℤ◌}
 use lib.Ieee.{Float, binary64, add, sub, mul, div, lt, eq, le, is_nan, fits}
 use lib.Ieee.Fits.{cond-fits, add-fits, sub-fits, div-fits}
-use Rattle.algebra.specs.Quote.{quote}
-use Rattle.algebra.specs.Lin as Lin
-use Rattle.algebra.specs.Lin.{le_from}
+use Rattle.algebra.proofs.Quote.{quote}
+use Rattle.algebra.proofs.Lin as Lin
+use Rattle.algebra.proofs.Lin.{le_from}
 use Rattle.algebra.specs.Order.{◌≦◌, ◌≺◌, Within, within_nat_abs, ≤ℤ-trans, ≤ℤ-or-<ℤ, <ℤ→≤ℤ, mul_nonneg, mul_le, le_of_within, pos_nonneg}
-use Rattle.algebra.specs.Mono.{mul_mono}
+use Rattle.algebra.proofs.Mono.{mul_mono}
 use Rattle.number.specs.Exact.{Is, Sized, Held, zeroᶠ, one}
 use Rattle.number.specs.Hypot.{Short}
 use Rattle.number.specs.Rounding.{Rounds}

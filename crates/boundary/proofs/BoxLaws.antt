@@ -11,11 +11,11 @@ use lib.Pow.{pow_pos}
 use lib.Ieee.{Float, of_bits, binary64, add, sub, mul, neg, lt, le, is_nan, fits}
 use lib.Ieee.Fits.{mul-fits}
 use lib.Ieee.Scale.{finite}
-use Rattle.algebra.specs.Quote.{quote}
-use Rattle.algebra.specs.Lin as Lin
-use Rattle.algebra.specs.Lin.{le_from}
+use Rattle.algebra.proofs.Quote.{quote}
+use Rattle.algebra.proofs.Lin as Lin
+use Rattle.algebra.proofs.Lin.{le_from}
 use Rattle.algebra.specs.Order.{◌≦◌, mul_nonneg, mul_le, nat_abs_mul, pos_nonneg}
-use Rattle.algebra.specs.Mono.{mul_mono}
+use Rattle.algebra.proofs.Mono.{mul_mono}
 use Rattle.number.specs.Exact.{Is, Held, zeroᶠ, one}
 use Rattle.number.specs.Hypot.{Short}
 use Rattle.number.specs.Rounding.{Rounds}

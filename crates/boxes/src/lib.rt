@@ -116,7 +116,7 @@ pub fn centre(b: Bounds) -> Point
 // The widened boxes of a list, and their centres' coordinates.
 pub fn widen(boxes: &[f64], wide: &mut [f64], xs: &mut [f64], ys: &mut [f64])
     requires { box_count boxes.now ≤ 1024 }
-    ensures { record { wide = wide.exit.now; xs = xs.new; ys = ys.new } ≡ widened_in boxes.now wide.entry.now xs.old ys.old }
+    ensures { record { wide = wide.new; xs = xs.new; ys = ys.new } ≡ widened_in boxes.now wide.old xs.old ys.old }
 {
     let n = boxes.len() / 4;
     let mut i = 0;

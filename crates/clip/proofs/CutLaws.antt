@@ -10,9 +10,9 @@ use lib.IntN.{ℤ, pos, negsuc, neg_ℤ, ◌*ℤ◌}
 use lib.Signed.{lt_z}
 use lib.Ieee.{Float, nan, inf, fin, binary64, unlike, round, div, lt, eq, ne}
 use lib.Ieee.Bits.{is_true}
-use Rattle.algebra.specs.Quote.{quote}
-use Rattle.algebra.specs.Lin as L
-use Rattle.algebra.specs.Lin.{le_from}
+use Rattle.algebra.proofs.Quote.{quote}
+use Rattle.algebra.proofs.Lin as L
+use Rattle.algebra.proofs.Lin.{le_from}
 use Rattle.algebra.specs.Order.{◌≦◌, <ℤ→≤ℤ}
 use Rattle.number.specs.Exact.{Is, zeroᶠ, one}
 use Rattle.number.specs.Rounding.{Rounds}

@@ -10,13 +10,14 @@ use lib.Dec.{T, lit≤, lit<}
 use lib.IntN.{ℤ, pos, negsuc, neg_ℤ, nat_abs, ◌+ℤ◌, ◌-ℤ◌, ◌*ℤ◌}
 use lib.Ieee.{Float, binary64, round, add, sub, mul, div, lt, le, ne, eq}
 use lib.Ieee.Bits.{is_true}
-use Rattle.algebra.specs.Quote.{quote}
-use Rattle.algebra.specs.Lin as L
-use Rattle.algebra.specs.Lin.{le_from, lt_from, false_from}
+use Rattle.algebra.proofs.Quote.{quote}
+use Rattle.algebra.proofs.Lin as L
+use Rattle.algebra.proofs.Lin.{le_from, lt_from, false_from}
 use Rattle.number.proofs.ChoiceLaws.{never_true}
 use Rattle.algebra.specs.Order.{◌≦◌, ◌≺◌, Within, ≤ℤ-or-<ℤ, <ℤ→≤ℤ, pos_nonneg, pos_le, pos_lt, mul_pos, nat_abs_add, nat_abs_neg, nat_abs_mul, within_nat_abs, le_of_within}
-use Rattle.algebra.specs.Mono.{mul_mono, within_mul, within_product}
-use Rattle.algebra.specs.Sign.{sign, signed_of}
+use Rattle.algebra.proofs.Mono.{mul_mono, within_mul, within_product}
+use Rattle.algebra.specs.Sign.{sign}
+use Rattle.algebra.proofs.SignedLaws.{signed_of}
 use Rattle.number.specs.Exact.{Is, Sized, zeroᶠ, one}
 use Rattle.number.specs.Rounding.{Rounds, Result}
 use Rattle.number.proofs.Operations.{equation→is, rescale, zero_is, add_rounds, mul_rounds, div_rounds}

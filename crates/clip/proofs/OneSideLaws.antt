@@ -10,11 +10,11 @@ use lib.Dec.{T, lit≤}
 use lib.IntN.{ℤ, pos, neg_ℤ, nat_abs, ◌+ℤ◌, ◌-ℤ◌, ◌*ℤ◌, *ℤ_comm}
 use lib.Ieee.{Float, binary64, sub, mul, div, le, eq}
 use lib.Ieee.Bits.{is_true}
-use Rattle.algebra.specs.Quote.{quote}
-use Rattle.algebra.specs.Lin as L
-use Rattle.algebra.specs.Lin.{le_from}
+use Rattle.algebra.proofs.Quote.{quote}
+use Rattle.algebra.proofs.Lin as L
+use Rattle.algebra.proofs.Lin.{le_from}
 use Rattle.algebra.specs.Order.{◌≦◌, ◌≺◌, ≤ℤ-or-<ℤ, <ℤ→≤ℤ, pos_nonneg}
-use Rattle.algebra.specs.Mono.{mul_mono}
+use Rattle.algebra.proofs.Mono.{mul_mono}
 use Rattle.number.specs.Exact.{Is, zeroᶠ}
 use Rattle.number.specs.Rounding.{Rounds, Rounded, Result}
 use Rattle.number.proofs.Operations.{equation→is, is_unique, zero_is, add_rounds, sub_rounds}

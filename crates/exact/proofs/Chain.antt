@@ -6,10 +6,10 @@ use mathlib.Core.List.{List, [], ◌∷◌}
 use Prim.Native.Nat.{◌^◌, ◌+◌}
 use native.Mathlib.Omega.{arith}
 use lib.IntN.{ℤ, pos, neg_ℤ, ◌+ℤ◌, ◌-ℤ◌, ◌*ℤ◌}
-use Rattle.algebra.specs.Quote.{quote}
+use Rattle.algebra.proofs.Quote.{quote}
 use Rattle.algebra.specs.Order.{◌≦◌, ◌≺◌, Within, within_of_sq, ≤ℤ-or-<ℤ, mul_le, mul_pos, mul_nonneg, sq_nonneg, <ℤ→≤ℤ}
-use Rattle.algebra.specs.Lin.{le, lt, eq, le_from, lt_from, false_from}
-use Rattle.algebra.specs.Mono.{within_product, mul_cancel, mul_mono, within_cancel, le_of_sq}
+use Rattle.algebra.proofs.Lin.{le, lt, eq, le_from, lt_from, false_from}
+use Rattle.algebra.proofs.Mono.{within_product, mul_cancel, mul_mono, within_cancel, le_of_sq}
 
 -- ---- the parameter. R is dot / l2 rounded, where 1 is 2 ^ 52 E
 module _ {E l2 : ℤ} (dot : ℤ) (E0 : pos 0 ≺ E) (L0 : pos 0 ≺ l2) where

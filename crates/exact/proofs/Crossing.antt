@@ -6,10 +6,10 @@ use Prim.Native.Nat.{◌^◌}
 use native.Mathlib.Omega.{arith}
 use lib.IntN.{ℤ, pos, ◌+ℤ◌, ◌-ℤ◌, ◌*ℤ◌}
 use lib.Signed.{lt_z}
-use Rattle.algebra.specs.Quote.{quote, ring}
+use Rattle.algebra.proofs.Quote.{quote, ring}
 use Rattle.algebra.specs.Order.{◌≦◌, ◌≺◌, Within, ≤ℤ-or-<ℤ, ≤ℤ-antisym, <ℤ→≤ℤ, mul_lt, mul_le, abs_le, within_le, within_add}
-use Rattle.algebra.specs.Lin.{le, lt, eq, le_from, lt_from, eq_from, false_from}
-use Rattle.algebra.specs.Mono.{mul_mono, within_mul, within_cancel}
+use Rattle.algebra.proofs.Lin.{le, lt, eq, le_from, lt_from, eq_from, false_from}
+use Rattle.algebra.proofs.Mono.{mul_mono, within_mul, within_cancel}
 use Rattle.number.specs.Rounding.{Rounded}
 use Rattle.number.proofs.RoundingLaws.{rounded_relative, rounded_size}
 use Rattle.number.proofs.Compare.{same_bool}

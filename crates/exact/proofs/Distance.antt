@@ -11,11 +11,11 @@ use lib.Signed.{lt_z}
 use lib.ListN.{length}
 use lib.Ieee.{Float, lt, eq}
 use lib.Ieee.Fits.{and_i}
-use Rattle.algebra.specs.Quote.{quote}
+use Rattle.algebra.proofs.Quote.{quote}
 use Rattle.algebra.specs.Order.{◌≦◌, ◌≺◌, absℤ, nat_abs_neg, nonneg_nat, ≤ℤ-of-eq, ≤ℤ-trans, ≤ℤ-antisym, ≤ℤ-or-<ℤ, <ℤ→≤ℤ, mul_pos}
-use Rattle.algebra.specs.Lin as L
-use Rattle.algebra.specs.Lin.{le_from, lt_from, eq_from, false_from}
-use Rattle.algebra.specs.Mono.{mul_mono, mul_cancel, sq_mono}
+use Rattle.algebra.proofs.Lin as L
+use Rattle.algebra.proofs.Lin.{le_from, lt_from, eq_from, false_from}
+use Rattle.algebra.proofs.Mono.{mul_mono, mul_cancel, sq_mono}
 use Rattle.number.specs.Exact.{Is, zeroᶠ}
 use Rattle.number.proofs.Values.{below_infinity}
 use Rattle.number.proofs.Operations.{zero_is, neg_is}

@@ -9,11 +9,11 @@ use lib.Dec.{T, lit≤}
 use lib.IntN.{ℤ, pos, negsuc, nat_abs, ◌+ℤ◌, ◌-ℤ◌, ◌*ℤ◌}
 use lib.Ieee.{Float, binary64, add, sub, mul, div, eq}
 use Rattle.algebra.specs.Int.{one-*ℤ}
-use Rattle.algebra.specs.Quote.{quote}
+use Rattle.algebra.proofs.Quote.{quote}
 use Rattle.algebra.specs.Order.{◌≦◌, ◌≺◌, ord, Within, within_nat_abs, le_of_within, nat_abs_mul, ≤ℤ-trans, <ℤ→≤ℤ, mul_pos, nonneg_nat}
-use Rattle.algebra.specs.Lin as L
-use Rattle.algebra.specs.Lin.{le_from}
-use Rattle.algebra.specs.Mono.{mul_mono, mul_cancel}
+use Rattle.algebra.proofs.Lin as L
+use Rattle.algebra.proofs.Lin.{le_from}
+use Rattle.algebra.proofs.Mono.{mul_mono, mul_cancel}
 use Rattle.number.specs.Exact.{Is, Sized, one}
 use Rattle.number.specs.Rounding.{Result}
 use Rattle.number.specs.Hypot.{hypot_of}

@@ -11,10 +11,10 @@ use lib.ListN.{length, take, drop, length-reverse}
 use lib.Seq.{take_at}
 use lib.Signed.{le_z}
 use lib.Ieee.{Float}
-use Rattle.algebra.specs.Quote.{quote, ring}
+use Rattle.algebra.proofs.Quote.{quote, ring}
 use Rattle.algebra.specs.Order.{◌≺◌, absℤ, nonneg_nat, nat_abs_neg, <ℤ→≤ℤ}
-use Rattle.algebra.specs.Lin as L
-use Rattle.algebra.specs.Lin.{lt_from}
+use Rattle.algebra.proofs.Lin as L
+use Rattle.algebra.proofs.Lin.{lt_from}
 use Rattle.number.specs.Exact.{Is, eq_z}
 use Rattle.number.proofs.Operations.{is_unique, zero_is}
 use Rattle.number.proofs.Compare.{lt_false, is_lt, not_lt, eq_false, lt_is, eq_is}

@@ -9,12 +9,13 @@ use lib.Dec.{T, lit≤}
 use lib.IntN.{ℤ, pos, negsuc, nat_abs, ◌+ℤ◌, ◌-ℤ◌, ◌*ℤ◌}
 use lib.Signed.{lt_z}
 use lib.Ieee.{Float, binary64, unlike, add, sub, mul, div, lt}
-use Rattle.algebra.specs.Quote.{quote, ring}
+use Rattle.algebra.proofs.Quote.{quote, ring}
 use Rattle.algebra.specs.Order.{◌≦◌, ◌≺◌, ≤ℤ-of-eq, Within, within_nat_abs, le_of_within, nat_abs_mul, pos_lt, pos_le, pos_nonneg}
 use Rattle.algebra.specs.Int.{*ℤ-assoc}
-use Rattle.algebra.specs.Lin.{eq, eq_from}
-use Rattle.algebra.specs.Mono.{within_mul}
-use Rattle.algebra.specs.Sign.{signed, sign, signed_of, nat_abs_signed, mul_signed_pos}
+use Rattle.algebra.proofs.Lin.{eq, eq_from}
+use Rattle.algebra.proofs.Mono.{within_mul}
+use Rattle.algebra.specs.Sign.{signed, sign}
+use Rattle.algebra.proofs.SignedLaws.{signed_of, nat_abs_signed, mul_signed_pos}
 use Rattle.number.specs.Exact.{Is, Sized, eq_z}
 use Rattle.number.specs.Rounding.{Result}
 use Rattle.number.proofs.Operations.{zero_is, rescale, rounds_same, div_rounds}

@@ -7,10 +7,10 @@ use native.Mathlib.Omega.{arith}
 use lib.IntN.{ℤ, pos, ◌-ℤ◌, ◌*ℤ◌}
 use lib.Signed.{lt_z, clash_ℤ}
 use lib.Ieee.{Float}
-use Rattle.algebra.specs.Quote.{quote}
+use Rattle.algebra.proofs.Quote.{quote}
 use Rattle.algebra.specs.Order.{◌≦◌, ◌≺◌, Within, ≤ℤ-trans, ≤ℤ-of-eq, <ℤ→≤ℤ, mul_pos, nonneg_nat}
-use Rattle.algebra.specs.Lin.{le, lt, le_from}
-use Rattle.algebra.specs.Mono.{mul_mono}
+use Rattle.algebra.proofs.Lin.{le, lt, le_from}
+use Rattle.algebra.proofs.Mono.{mul_mono}
 use Rattle.number.specs.Exact.{Is, zeroᶠ, one}
 use Rattle.number.specs.Rounding.{Result}
 use Rattle.number.specs.Signs.{clamp_of}

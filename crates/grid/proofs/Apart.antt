@@ -5,10 +5,10 @@ use mathlib.Core.List.{List, [], ◌∷◌}
 use native.Mathlib.Omega.{arith}
 use lib.Dec.{T}
 use lib.IntN.{ℤ, pos, ◌-ℤ◌, ◌*ℤ◌}
-use Rattle.algebra.specs.Quote.{quote}
+use Rattle.algebra.proofs.Quote.{quote}
 use Rattle.algebra.specs.Order.{◌≦◌, ◌≺◌, within_of_sq, ≤ℤ-antisym, ≤ℤ-or-<ℤ, mul_le, mul_pos, sq_nonneg}
-use Rattle.algebra.specs.Lin.{le, eq, le_from, eq_from}
-use Rattle.algebra.specs.Mono.{mul_cancel_eq}
+use Rattle.algebra.proofs.Lin.{le, eq, le_from, eq_from}
+use Rattle.algebra.proofs.Mono.{mul_cancel_eq}
 use Rattle.grid.specs.Whole.{PointZ, EdgeZ, cross_z, on_edge_z}
 use Rattle.grid.specs.Distance.{Region, region_of, squares_z, length_z, dot_z, num_of, num_z, Ratio}
 use Rattle.grid.specs.Distance.Region.{before_start, beside, past_end}

@@ -9,10 +9,10 @@ use lib.Dec.{T}
 use lib.IntN.{ℤ, pos, negsuc, nat_abs, ◌-ℤ◌, ◌*ℤ◌}
 use lib.Signed.{le_z, clash_ℤ}
 use lib.Ieee.Fits.{and_i}
-use Rattle.algebra.specs.Quote.{quote}
+use Rattle.algebra.proofs.Quote.{quote}
 use Rattle.algebra.specs.Order.{◌≦◌, ◌≺◌, ≤ℤ-or-<ℤ, <ℤ→≤ℤ, mul_lt, sq_nonneg, absℤ, within_of_sq, le_of_within, pos_nonneg}
-use Rattle.algebra.specs.Lin as L
-use Rattle.algebra.specs.Lin.{le_from, false_from}
+use Rattle.algebra.proofs.Lin as L
+use Rattle.algebra.proofs.Lin.{le_from, false_from}
 use Rattle.number.proofs.Basics.{or_l, or_r}
 use Rattle.grid.specs.Whole.{between_z}
 

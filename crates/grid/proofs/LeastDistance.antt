@@ -3,9 +3,9 @@ use mathlib.Core.Path.{◌≡◌, sym}
 use mathlib.Core.List.{List, [], ◌∷◌}
 use native.Mathlib.Omega.{arith}
 use lib.IntN.{ℤ, pos, ◌+ℤ◌, ◌-ℤ◌, ◌*ℤ◌}
-use Rattle.algebra.specs.Quote.{quote, ring}
+use Rattle.algebra.proofs.Quote.{quote, ring}
 use Rattle.algebra.specs.Order.{◌≦◌, ◌≺◌, <ℤ→≤ℤ, +ℤ-mono, mul_nonneg, sub_nonneg, sq_nonneg, le_by_rest}
-use Rattle.algebra.specs.Lin.{le, le_from}
+use Rattle.algebra.proofs.Lin.{le, le_from}
 use Rattle.grid.specs.Whole.{PointZ, EdgeZ, cross_z}
 use Rattle.grid.specs.Distance.{Region, region_of, dot_z, length_z, num_of, den_of, num_z, den_z, Ratio, away_z, LeastDistance}
 use Rattle.grid.specs.Distance.Region.{before_start, beside, past_end}

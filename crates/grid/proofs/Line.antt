@@ -8,10 +8,10 @@ use lib.IntN.{ℤ, pos, ◌-ℤ◌, ◌*ℤ◌}
 use lib.Signed.{lt_z}
 use lib.Ieee.{unlike}
 use lib.Ieee.Fits.{and_i}
-use Rattle.algebra.specs.Quote.{quote}
+use Rattle.algebra.proofs.Quote.{quote}
 use Rattle.algebra.specs.Order.{◌≦◌, ◌≺◌, <ℤ→≤ℤ, mul_le, mul_pos, sq_nonneg}
-use Rattle.algebra.specs.Lin.{le, lt, eq, le_from, lt_from}
-use Rattle.algebra.specs.Mono.{mul_cancel}
+use Rattle.algebra.proofs.Lin.{le, lt, eq, le_from, lt_from}
+use Rattle.algebra.proofs.Mono.{mul_cancel}
 use Rattle.number.specs.Exact.{eq_z}
 use Rattle.number.proofs.Compare.{→eq_z, is_lt, not_lt}
 use Rattle.grid.specs.Whole.{PointZ, EdgeZ, cross_z, between_z, on_edge_z}

@@ -6,10 +6,10 @@ use Prim.Native.Nat.{◌<◌}
 use native.Mathlib.Omega.{arith}
 use lib.IntN.{ℤ, pos, ◌*ℤ◌}
 use lib.ListN.{length}
-use Rattle.algebra.specs.Quote.{quote}
+use Rattle.algebra.proofs.Quote.{quote}
 use Rattle.algebra.specs.Order.{◌≦◌, ◌≺◌, ≤ℤ-or-<ℤ, ≤ℤ-antisym, <ℤ→≤ℤ, mul_pos, sq_nonneg}
-use Rattle.algebra.specs.Lin.{le, eq, le_from}
-use Rattle.algebra.specs.Mono.{mul_mono, mul_cancel}
+use Rattle.algebra.proofs.Lin.{le, eq, le_from}
+use Rattle.algebra.proofs.Mono.{mul_mono, mul_cancel}
 use Rattle.lists.specs.Lists.{Every, Some}
 use Rattle.lists.specs.Lists.Some.{here, there}
 use Rattle.grid.specs.Whole.{PointZ, EdgeZ}

@@ -5,12 +5,13 @@ use lib.Dec.{not_T}
 use lib.Signed.{lt_z, le_z, lt_z_yes, lt_z_no, clash_ℤ}
 use lib.Ieee.{Float, nan, inf, fin, up, down, below, level, lt, eq, le, neg}
 use lib.Ieee.Fits.{down_pos, and_l, and_r, and_i}
-use Rattle.algebra.specs.Quote.{quote}
-use Rattle.algebra.specs.Lin as L
-use Rattle.algebra.specs.Lin.{le_from}
+use Rattle.algebra.proofs.Quote.{quote}
+use Rattle.algebra.proofs.Lin as L
+use Rattle.algebra.proofs.Lin.{le_from}
 use Rattle.algebra.specs.Order.{◌≦◌, ◌≺◌, ≤ℤ-or-<ℤ, ≤ℤ-antisym, ≤ℤ-of-eq, <ℤ→≤ℤ, negℤ_anti, pos_lt, pos_nonneg, mul_pos}
-use Rattle.algebra.specs.Mono.{mul_mono, mul_cancel}
-use Rattle.algebra.specs.Sign.{signed, neg_signed, mul_signed_pos, below_signed, signed_below, level_signed, signed_level}
+use Rattle.algebra.proofs.Mono.{mul_mono, mul_cancel}
+use Rattle.algebra.specs.Sign.{signed}
+use Rattle.algebra.proofs.SignedLaws.{neg_signed, mul_signed_pos, below_signed, signed_below, level_signed, signed_level}
 use Rattle.number.specs.Exact.{Is, eq_z}
 use Rattle.number.proofs.Operations.{Equation, is→equation}
 

@@ -3,7 +3,8 @@ use Rattle.std.proofs.Common.{◌≡◌, ℕ, ◌+◌, ◌*◌, ◌^◌, ◌<◌
 use lib.Ieee.{Float, fin, binary64, add, sub, mul, div}
 use Rattle.algebra.specs.Int.{*ℤ-assoc}
 use Rattle.algebra.specs.Order.{nat_abs_add, nat_abs_neg, nat_abs_mul, pos_lt}
-use Rattle.algebra.specs.Sign.{signed, nat_abs_signed, mul_signed_pos}
+use Rattle.algebra.specs.Sign.{signed}
+use Rattle.algebra.proofs.SignedLaws.{nat_abs_signed, mul_signed_pos}
 use Rattle.number.specs.Exact.{Is, Sized}
 use Rattle.number.specs.Rounding.{Result}
 use Rattle.number.proofs.Operations.{neg_is, rescale, add_rounds, mul_rounds, div_rounds, half_rounds}

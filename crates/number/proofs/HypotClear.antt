@@ -3,12 +3,12 @@ use Rattle.std.proofs.Common.{◌≡◌, ℕ, ◌+◌, ◌-◌, ◌*◌, ◌^◌
 use lib.Ieee.{Float, fin, binary64, add, mul, lt, is_nan}
 use lib.Ieee.Bits.{is_true}
 use lib.Ieee.Fits.{and_l, and_r, and_i}
-use Rattle.algebra.specs.Quote.{quote}
+use Rattle.algebra.proofs.Quote.{quote}
 use Rattle.algebra.specs.Order.{◌≦◌, ◌≺◌, Within, pos_lt, pos_nonneg, ≤ℤ-or-<ℤ, <ℤ→≤ℤ, mul_nonneg}
-use Rattle.algebra.specs.Lin.{false_from, lt_from}
-use Rattle.algebra.specs.Lin as L
-use Rattle.algebra.specs.Comb.{le_comb}
-use Rattle.algebra.specs.Mono.{mul_mono, mul_cancel, sq_mono}
+use Rattle.algebra.proofs.Lin.{false_from, lt_from}
+use Rattle.algebra.proofs.Lin as L
+use Rattle.algebra.proofs.Comb.{le_comb}
+use Rattle.algebra.proofs.Mono.{mul_mono, mul_cancel, sq_mono}
 use Rattle.number.specs.Exact.{Is}
 use Rattle.number.specs.Hypot.{hypot_of, slack, tiny, clearly_less, clear_limit, Short}
 use Rattle.number.proofs.Operations.{equation→is}

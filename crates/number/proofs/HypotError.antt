@@ -4,13 +4,14 @@ use lib.Ieee.{Float, fin, binary64, up, down, add, mul, fits}
 use lib.Ieee.Fits.{up_pos, down_pos, add-fits}
 use lib.Ieee.Exact.{HasValue}
 use lib.Ieee.Positive.{positive, positive_of_value}
-use Rattle.algebra.specs.Quote.{quote}
+use Rattle.algebra.proofs.Quote.{quote}
 use Rattle.algebra.specs.Int.{pos_part_neg, neg_part_neg}
 use Rattle.algebra.specs.Order.{◌≦◌, ◌≺◌, ord, Within, nat_abs_add, nat_abs_mul, pos_le, pos_lt, pos_nonneg, ≤ℤ-or-<ℤ, ≤ℤ-antisym, <ℤ→≤ℤ, sq_nonneg, +ℤ-mono}
-use Rattle.algebra.specs.Lin.{le, le_from}
-use Rattle.algebra.specs.Comb.{le_comb}
-use Rattle.algebra.specs.Mono.{mul_mono, mul_cancel, within_cancel}
-use Rattle.algebra.specs.Sign.{signed, signed_cross}
+use Rattle.algebra.proofs.Lin.{le, le_from}
+use Rattle.algebra.proofs.Comb.{le_comb}
+use Rattle.algebra.proofs.Mono.{mul_mono, mul_cancel, within_cancel}
+use Rattle.algebra.specs.Sign.{signed}
+use Rattle.algebra.proofs.SignedLaws.{signed_cross}
 use Rattle.number.specs.Exact.{Is}
 use Rattle.number.specs.Root.{sqrt_of}
 use Rattle.number.specs.Hypot.{hypot_of}

@@ -6,7 +6,7 @@ use lib.Ieee.Fits.{up_pos, down_pos, add-fits, mul-fits}
 use lib.Ieee.Order.{round_mono}
 use lib.Ieee.Scale.{round_same}
 use lib.Ieee.Positive.{positive, above, above_of_le}
-use Rattle.algebra.specs.Sign.{nat_abs_signed}
+use Rattle.algebra.proofs.SignedLaws.{nat_abs_signed}
 use Rattle.number.specs.Exact.{Is, zeroᶠ}
 use Rattle.number.specs.Root.{sqrt_of, Plus, plus_inf, plus_fin}
 use Rattle.number.specs.Signs.{abs_of}

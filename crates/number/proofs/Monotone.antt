@@ -1,11 +1,11 @@
 -- The operations keep the order of floats: for all finite numbers of `f64`, of either sign and of any size, overflow to an infinity included. Assumes nothing.
 use Rattle.std.proofs.Common.{ℕ, false, T, [], ◌∷◌, ℤ, pos, ◌*ℤ◌, sym, refl, subst, arith, lit<}
 use lib.Ieee.{Float, fin, binary64, round, add, sub, mul, div, le, lt}
-use Rattle.algebra.specs.Quote.{quote}
-use Rattle.algebra.specs.Lin as L
-use Rattle.algebra.specs.Lin.{le_from}
+use Rattle.algebra.proofs.Quote.{quote}
+use Rattle.algebra.proofs.Lin as L
+use Rattle.algebra.proofs.Lin.{le_from}
 use Rattle.algebra.specs.Order.{◌≦◌, ≤ℤ-trans, +ℤ-mono, negℤ_anti, nonneg_nat, pos_nonneg, <ℤ→≤ℤ}
-use Rattle.algebra.specs.Mono as M
+use Rattle.algebra.proofs.Mono as M
 use Rattle.number.specs.Exact.{Held, zeroᶠ}
 use Rattle.number.specs.Rounding.{Rounds}
 use Rattle.number.proofs.Operations.{zero_is, finite_is, add_rounds, sub_rounds, mul_rounds}

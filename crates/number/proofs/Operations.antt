@@ -7,12 +7,13 @@ use lib.Ieee.Digits.{back}
 use lib.Ieee.Fits.{down_pos, and_l, and_r}
 use lib.Ieee.Positive.{first_pos}
 use lib.Ieee.Scale.{round_same}
-use Rattle.algebra.specs.Quote.{quote, ring}
-use Rattle.algebra.specs.Lin.{eq, eq_from}
+use Rattle.algebra.proofs.Quote.{quote, ring}
+use Rattle.algebra.proofs.Lin.{eq, eq_from}
 use Rattle.algebra.specs.Int.{one-*ℤ, *ℤ-assoc}
 use Rattle.algebra.specs.Order.{pos_lt}
-use Rattle.algebra.specs.Mono.{mul_cancel_eq}
-use Rattle.algebra.specs.Sign.{signed, nat_abs_signed, neg_signed, mul_signed, mul_signed_pos, signed_cross, add_signed, add_unlike_lt, add_unlike_ge}
+use Rattle.algebra.proofs.Mono.{mul_cancel_eq}
+use Rattle.algebra.specs.Sign.{signed}
+use Rattle.algebra.proofs.SignedLaws.{nat_abs_signed, neg_signed, mul_signed, mul_signed_pos, signed_cross, add_signed, add_unlike_lt, add_unlike_ge}
 use Rattle.number.specs.Exact.{Is, Held, zeroᶠ}
 use Rattle.number.specs.Rounding.{Rounds}
 

@@ -10,13 +10,14 @@ use lib.Ieee.Fits.{round_is}
 use lib.Ieee.Exact.{HasValue, units_val, round_exact}
 use lib.Ieee.Order.{drop, kept, round_mono}
 use lib.Ieee.Scale.{round_same, grid}
-use Rattle.algebra.specs.Quote.{quote, ring}
-use Rattle.algebra.specs.Lin as L
-use Rattle.algebra.specs.Lin.{le_from, false_from}
+use Rattle.algebra.proofs.Quote.{quote, ring}
+use Rattle.algebra.proofs.Lin as L
+use Rattle.algebra.proofs.Lin.{le_from, false_from}
 use Rattle.algebra.specs.Int.{*ℤ-assoc, one-*ℤ}
 use Rattle.algebra.specs.Order.{◌≦◌, ◌≺◌, Within, absℤ, abs_le, abs_mul, within_le, within_neg, within_nat_abs, nat_abs_neg, nonneg_nat, pos_le, pos_lt, le_pos, pos_nonneg, ≤ℤ-trans, ≤ℤ-of-eq, ≤ℤ-<ℤ-trans, <ℤ→≤ℤ, mul_nonneg, negℤ_anti, le_of_within}
-use Rattle.algebra.specs.Mono.{mul_mono, mul_cancel, within_mul, within_cancel}
-use Rattle.algebra.specs.Sign.{signed, nat_abs_signed, neg_signed, mul_signed_pos}
+use Rattle.algebra.proofs.Mono.{mul_mono, mul_cancel, within_mul, within_cancel}
+use Rattle.algebra.specs.Sign.{signed}
+use Rattle.algebra.proofs.SignedLaws.{nat_abs_signed, neg_signed, mul_signed_pos}
 use Rattle.number.specs.Exact.{Is}
 use Rattle.number.specs.Rounding.{Rounds, Rounded, Result}
 use Rattle.number.proofs.Units.{closest_near}

@@ -5,7 +5,7 @@ use lib.Ieee.Fits.{down_pos, neg-fits, add-fits}
 use lib.Ieee.Scale.{finite}
 use Rattle.algebra.specs.Int.{one-*ℤ}
 use Rattle.algebra.specs.Order.{ord, nat_abs_neg, nat_abs_add, nat_abs_mul, nat_abs_parts, nonneg_nat, pos_le, pos_lt, le_pos, pos_nonneg, <ℤ→≤ℤ, within_nat_abs, le_of_within}
-use Rattle.algebra.specs.Sign.{nat_abs_signed}
+use Rattle.algebra.proofs.SignedLaws.{nat_abs_signed}
 use Rattle.number.specs.Exact.{Is, Sized, Held, zeroᶠ}
 use Rattle.number.specs.Rounding.{Rounds, Rounded}
 use Rattle.number.specs.Signs.{sign_bit, abs_of}

@@ -25,7 +25,7 @@ fn entry_at(nodes: &[u32], gaps: &[f64], i: usize) -> Entry
 // Exchanges the entries at i and j.
 fn exchange(nodes: &mut [u32], gaps: &mut [f64], i: usize, j: usize)
     requires { ((i < length nodes.old) × (i < length gaps.old)) × ((j < length nodes.old) × (j < length gaps.old)) }
-    ensures { record { nodes = nodes.exit.now; gaps = gaps.new } ≡ exchanged_in nodes.entry.now gaps.old i j }
+    ensures { record { nodes = nodes.new; gaps = gaps.new } ≡ exchanged_in nodes.old gaps.old i j }
 {
     let node = nodes[i];
     nodes[i] = nodes[j];

@@ -6,8 +6,9 @@ use Rattle.std.specs.Prelude.{◌≡◌, List, [], ◌∷◌, ℕ, zero, suc, �
 use Rattle.std.proofs.Common.{◌∙◌, ap, ap₂, arith}
 use Rattle.std.proofs.Math.IntN.{*ℤ_comm}
 use Rattle.algebra.specs.Int.{pos_part, neg_part, parts_eq, add_parts, mul_parts, pos_part_neg, neg_part_neg, *ℤ-assoc, +ℤ-*ℤ}
-use Rattle.algebra.specs.Ring.{add, neg, Pol, con, hor, ev, norm, norm_sound}
-use Rattle.algebra.specs.Quote.{Sides, Both, Four, Done}
+use Rattle.algebra.specs.Ring.{add, neg, Pol, con, hor, ev, norm}
+use Rattle.algebra.proofs.RingLaws.{norm_sound}
+use Rattle.algebra.proofs.Quote.{Sides, Both, Four, Done}
 use Rattle.algebra.specs.Order.{◌≦◌, ◌≺◌, ord}
 
 -- the positive and the negative part of a polynomial times the monomial m

@@ -5,10 +5,11 @@
 use Rattle.std.specs.Prelude.{◌≡◌, List, [], ◌∷◌, ℕ, ℤ, pos, negsuc, neg_ℤ, ◌+ℤ◌}
 use Rattle.std.proofs.Common.{ap}
 use Rattle.algebra.specs.Int.{pos_part, neg_part, add_parts, pos_part_neg, neg_part_neg}
-use Rattle.algebra.specs.Ring.{Ex, add, mul, neg, num, val, Same, ring_eq}
-use Rattle.algebra.specs.Quote.{Sides, Both}
+use Rattle.algebra.specs.Ring.{Ex, add, mul, neg, num, val, Same}
+use Rattle.algebra.proofs.RingLaws.{ring_eq}
+use Rattle.algebra.proofs.Quote.{Sides, Both}
 use Rattle.algebra.specs.Order.{◌≦◌, ◌≺◌, ord, mul_nonneg, pos_nonneg, ≤ℤ-of-eq}
-use Rattle.algebra.specs.Lin.{Fact, le, lt, eq, Side, Quoted}
+use Rattle.algebra.proofs.Lin.{Fact, le, lt, eq, Side, Quoted}
 
 -- right − left of a fact, which is not negative; one less where the order is strict
 abbrev pub gap : (ρ : List ℤ) (f : Fact) → Side ρ f → Ex

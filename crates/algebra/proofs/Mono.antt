@@ -1,9 +1,9 @@
 -- Laws of the ordered ring that are products of facts: each is one line by `le_from`.
 use Rattle.std.specs.Prelude.{◌≡◌, [], ◌∷◌, ℤ, pos, neg_ℤ, ◌*ℤ◌}
 use Rattle.std.proofs.Common.{sym, ⊎_elim, arith}
-use Rattle.algebra.specs.Quote.{quote}
+use Rattle.algebra.proofs.Quote.{quote}
 use Rattle.algebra.specs.Order.{◌≦◌, ◌≺◌, Within, mul_le, mul_lt, ≤ℤ-or-<ℤ, ≤ℤ-of-eq, ≤ℤ-antisym, within_of_sq}
-use Rattle.algebra.specs.Lin.{le, lt, le_from, false_from}
+use Rattle.algebra.proofs.Lin.{le, lt, le_from, false_from}
 
 pub mul_mono : (c : ℤ) {x y : ℤ} → pos 0 ≦ c → x ≦ y → x *ℤ c ≦ y *ℤ c
 mul_mono c {x} {y} h k = le_from (c ∷ x ∷ y ∷ []) (le (mul_le h k) ∷ []) (search quote depth 30) (omega arith)
