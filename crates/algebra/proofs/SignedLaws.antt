@@ -10,9 +10,9 @@ use Rattle.algebra.specs.Order.{◌≺◌, nat_abs_neg, nat_abs_mul, lt_parts, p
 use Rattle.algebra.proofs.Mono.{mul_cancel_eq}
 use Rattle.algebra.specs.Sign.{signed, sign}
 
-pub signed_of : (z : ℤ) → signed (sign z) (nat_abs z) ≡ z
-signed_of (pos n) = refl
-signed_of (negsuc n) = refl
+pub signed_of_sign : (z : ℤ) → signed (sign z) (nat_abs z) ≡ z
+signed_of_sign (pos n) = refl
+signed_of_sign (negsuc n) = refl
 
 pub nat_abs_signed : (s : Bool) (m : ℕ) → nat_abs (signed s m) ≡ m
 nat_abs_signed false m = refl

@@ -30,7 +30,7 @@ use Rattle.boundary.specs.declared.Point.{Point}
 use Rattle.boundary.specs.declared.Edge.{Edge}
 use Rattle.boundary.specs.Line.{param_of, along_of}
 use Rattle.boundary.specs.Boxes.{FieldValue, FieldPoint, FieldEdge, Between, Share, lesser, greater, least_margin}
-use Rattle.boundary.proofs.FieldLaws.{field_held, field_is, field_not_nan, way_of, field_sub}
+use Rattle.boundary.proofs.FieldLaws.{field_held, field_is, field_not_nan, way_in_field, field_sub}
 
 -- ---- where on the edge the nearest point is: t is from 0 to 1, and no NaN, over whatever squared length
 
@@ -137,7 +137,7 @@ along_inside {a} {b} {t} {w} {lo} {hi} fa fb s hw W hlo hhi ba bb =
     let e_w : pos (2 ^ 1043) ≦ v.0 = is_order (equation→is least_margin refl) v.1 W in
     let a_in = in_units l.1 A.1.is h.1 ba in
     let b_in = in_units l.1 B.1.is h.1 bb in
-    let way = way_of fa fb in
+    let way = way_in_field fa fb in
     let f = share_of s way.is way.size (sub-fits binary64 b a) in
     go (eq t one)
     (rounds_between l.1 h.1 v.1 (is_rounds B.1.is fb.fits) (end_near l.0 h.0 B.0 v.0 (pos (2 ^ 1043)) b_in e0 e_w))

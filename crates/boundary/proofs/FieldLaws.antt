@@ -117,8 +117,8 @@ pub record Way {a b : Float} (fa : FieldValue a) (fb : FieldValue b) : Type 0 wh
   pub size : nat_abs E ≤ 2 ^ 1097
   pub near : Within (pos 2 *ℤ (E *ℤ pos 1 -ℤ ((field_is fb).0 -ℤ (field_is fa).0))) (pos (2 ^ 1043) *ℤ pos 1)
 
-pub way_of : {a b : Float} (fa : FieldValue a) (fb : FieldValue b) → Way fa fb
-way_of fa fb =
+pub way_in_field : {a b : Float} (fa : FieldValue a) (fb : FieldValue b) → Way fa fb
+way_in_field fa fb =
     let z = field_is fa in
     let w = field_is fb in
     let both = le_trans (add-le-add w.1.near z.1.near) (lit≤ tt) in
@@ -132,7 +132,7 @@ way_of fa fb =
     }
 
 pub field_sub : {x y : Float} → FieldValue x → FieldValue y → Short (sub binary64 x y)
-field_sub {x} {y} h g = let w = way_of g h in is_short (record { is = w.is; near = w.size }) (sub-fits binary64 x y)
+field_sub {x} {y} h g = let w = way_in_field g h in is_short (record { is = w.is; near = w.size }) (sub-fits binary64 x y)
 
 pub field_add : {x y : Float} → FieldValue x → FieldValue y → Held (add binary64 x y)
 field_add {x} {y} h g = is_held (add_grown (field_is h).1 (field_is g).1 (lit≤ tt)).1.is (add-fits binary64 x y)

@@ -49,9 +49,9 @@ module _ (W : ℕ → Bounds) (n : ℕ) where
       sym (ap (λ (s : List Float). get_or s (4 * i + k) nan) (append-nil held)) ∙ flat_at box_numbers 4 (λ _. refl) (run W 0 n) [] i k nan no_box r l
       ∙ ap (λ (b : Bounds). get_or (box_numbers b) k nan) (run_at W 0 n i no_box h ∙ ap W z)
 
-  pub box_held : (i : ℕ) → i < n → box_at held i ≡ W i
+  pub box_as_given : (i : ℕ) → i < n → box_at held i ≡ W i
   unfolding box_at
-  box_held i h =
+  box_as_given i h =
       let z : 4 * i + 0 ≡ 4 * i = omega arith in
       let first = ap (λ (k : ℕ). get_or held k nan) (sym z) ∙ held_at i 0 h (omega arith) in
       rw (first, held_at i 1 h (omega arith), held_at i 2 h (omega arith), held_at i 3 h (omega arith))
@@ -82,7 +82,7 @@ module _ (v : List Float) (whole : length v % 4 ≡ 0) where
   wide_held = λ k i. here i k
     where
       go : (i : ℕ) (b : Bool) → ltb i (box_count v) ≡ b → box_at (held (wide_at v) (box_count v)) i ≡ wide_at v i
-      go i true e = box_held (wide_at v) (box_count v) i (ltb-true i (box_count v) e)
+      go i true e = box_as_given (wide_at v) (box_count v) i (ltb-true i (box_count v) e)
       go i false e =
           let h : box_count v ≤ i = ltb-false i (box_count v) e in
           let l = flat_length box_numbers 4 (λ _. refl) (run (wide_at v) 0 (box_count v)) in

@@ -17,7 +17,7 @@ use Rattle.number.proofs.ChoiceLaws.{never_true}
 use Rattle.algebra.specs.Order.{◌≦◌, ◌≺◌, Within, ≤ℤ-or-<ℤ, <ℤ→≤ℤ, pos_nonneg, pos_le, pos_lt, mul_pos, nat_abs_add, nat_abs_neg, nat_abs_mul, within_nat_abs, le_of_within}
 use Rattle.algebra.proofs.Mono.{mul_mono, within_mul, within_product}
 use Rattle.algebra.specs.Sign.{sign}
-use Rattle.algebra.proofs.SignedLaws.{signed_of}
+use Rattle.algebra.proofs.SignedLaws.{signed_of_sign}
 use Rattle.number.specs.Exact.{Is, Sized, zeroᶠ, one}
 use Rattle.number.specs.Rounding.{Rounds, Result}
 use Rattle.number.proofs.Operations.{equation→is, rescale, zero_is, add_rounds, mul_rounds, div_rounds}
@@ -234,7 +234,7 @@ quarter Q = round binary64 (sign Q) (nat_abs Q) (2 ^ 12)
 
 quarter_rounds : (Q : ℤ) → Rounds (quarter Q) Q (2 ^ 12)
 unfolding quarter
-quarter_rounds Q = record { sign = sign Q; mag = nat_abs Q; den_pos = lit< tt; same = refl; val = signed_of Q }
+quarter_rounds Q = record { sign = sign Q; mag = nat_abs Q; den_pos = lit< tt; same = refl; val = signed_of_sign Q }
 
 quarter_size : (C e : ℤ) → nat_abs C ≤ 2 ^ 30 → nat_abs e ≤ 1 → nat_abs (pos 4 *ℤ C +ℤ e) ≤ 2 ^ 53
 quarter_size C e h k = le_trans (nat_abs_add (pos 4 *ℤ C) e) (rw (nat_abs_mul (pos 4) C) (le_trans (add-le-add (mul-le-mul (le_refl 4) h) k) (lit≤ tt)))

@@ -25,7 +25,7 @@ use Rattle.number.proofs.Values.{is_rounds}
 use Rattle.boundary.specs.Line.{along_of, half}
 use Rattle.boundary.specs.declared.Point.{Point}
 use Rattle.boundary.specs.Boxes.{FieldValue, FieldPoint}
-use Rattle.boundary.proofs.FieldLaws.{field_is, way_of}
+use Rattle.boundary.proofs.FieldLaws.{field_is, way_in_field}
 use Rattle.clip.specs.declared.HalfPlane.{HalfPlane}
 use Rattle.clip.specs.Clip.{in_half_plane}
 use Rattle.clip.specs.Passes.{coord_inside, cut_at, mark_at, uncut_of, marks_between}
@@ -88,7 +88,7 @@ mid_between a b fa fb =
     let A = field_is fa in
     let B = field_is fb in
     let d = sub_result B.1.is A.1.is (le_trans (add-le-add B.1.near A.1.near) (lit≤ tt)) in
-    let m = half_result d.is (subst (λ (z : ℤ). nat_abs z ≤ 2 ^ 1097) (is_unique (way_of fa fb).is d.is) (way_of fa fb).size) in
+    let m = half_result d.is (subst (λ (z : ℤ). nat_abs z ≤ 2 ^ 1097) (is_unique (way_in_field fa fb).is d.is) (way_in_field fa fb).size) in
     let at_a = is_rounds A.1.is fa.fits in
     let at_b = is_rounds B.1.is fb.fits in
     let at-m = add_rounds A.1.is m.is in
@@ -97,42 +97,42 @@ mid_between a b fa fb =
 
 -- ---- both ends on one side of the bound
 
-differences_order : {a x y : Float} (fa : FieldValue a) (fx : FieldValue x) (fy : FieldValue y) → T (le x y) → (way_of fa fx).E ≦ (way_of fa fy).E
+differences_order : {a x y : Float} (fa : FieldValue a) (fx : FieldValue x) (fy : FieldValue y) → T (le x y) → (way_in_field fa fx).E ≦ (way_in_field fa fy).E
 differences_order fa fx fy l =
     let A = field_is fa in
     let X = field_is fx in
     let Y = field_is fy in
-    rounds_order_is (sub_rounds X.1.is A.1.is) (sub_rounds Y.1.is A.1.is) (way_of fa fx).is (way_of fa fy).is
+    rounds_order_is (sub_rounds X.1.is A.1.is) (sub_rounds Y.1.is A.1.is) (way_in_field fa fx).is (way_in_field fa fy).is
     (mul_mono (pos (2 ^ 1074)) (pos_nonneg (2 ^ 1074)) (go A.0 X.0 Y.0 (is_order X.1.is Y.1.is l)))
   where
     go : (a x y : ℤ) → x ≦ y → x -ℤ a ≦ y -ℤ a
     go a x y l = le_from (a ∷ x ∷ y ∷ []) (L.le l ∷ []) (search quote depth 30) (omega arith)
 
-difference_low : {a x : Float} (fa : FieldValue a) (fx : FieldValue x) → T (le x a) → (way_of fa fx).E ≦ pos 0
+difference_low : {a x : Float} (fa : FieldValue a) (fx : FieldValue x) → T (le x a) → (way_in_field fa fx).E ≦ pos 0
 difference_low fa fx l =
     let A = field_is fa in
     let X = field_is fx in
-    rounds_order_is (sub_rounds X.1.is A.1.is) zero_rounds (way_of fa fx).is (zero_is 1074) (go A.0 X.0 (pos (2 ^ 1074)) (is_order X.1.is A.1.is l))
+    rounds_order_is (sub_rounds X.1.is A.1.is) zero_rounds (way_in_field fa fx).is (zero_is 1074) (go A.0 X.0 (pos (2 ^ 1074)) (is_order X.1.is A.1.is l))
   where
     go : (a x c : ℤ) → x ≦ a → (x -ℤ a) *ℤ pos 1 ≦ pos 0 *ℤ c
     go a x c l = le_from (a ∷ x ∷ c ∷ []) (L.le l ∷ []) (search quote depth 30) (omega arith)
 
-difference_high : {a x : Float} (fa : FieldValue a) (fx : FieldValue x) → T (le a x) → pos 0 ≦ (way_of fa fx).E
+difference_high : {a x : Float} (fa : FieldValue a) (fx : FieldValue x) → T (le a x) → pos 0 ≦ (way_in_field fa fx).E
 difference_high fa fx l =
     let A = field_is fa in
     let X = field_is fx in
-    rounds_order_is zero_rounds (sub_rounds X.1.is A.1.is) (zero_is 1074) (way_of fa fx).is (go A.0 X.0 (pos (2 ^ 1074)) (is_order A.1.is X.1.is l))
+    rounds_order_is zero_rounds (sub_rounds X.1.is A.1.is) (zero_is 1074) (way_in_field fa fx).is (go A.0 X.0 (pos (2 ^ 1074)) (is_order A.1.is X.1.is l))
   where
     go : (a x c : ℤ) → a ≦ x → pos 0 *ℤ c ≦ (x -ℤ a) *ℤ pos 1
     go a x c l = le_from (a ∷ x ∷ c ∷ []) (L.le l ∷ []) (search quote depth 30) (omega arith)
 
 pub uncut_from_low : (a b v : Float) → FieldValue a → FieldValue b → FieldValue v → T (le v a) → T (le v b) → cut_at (sub binary64 b a) (div binary64 (sub binary64 v a) (sub binary64 b a)) ≡ false
 uncut_from_low a b v fa fb fv l m =
-    uncut_behind (sub binary64 v a) (sub binary64 b a) (way_of fa fv).is (way_of fa fb).E (way_of fa fb).is (difference_low fa fv l) (differences_order fa fv fb m)
+    uncut_behind (sub binary64 v a) (sub binary64 b a) (way_in_field fa fv).is (way_in_field fa fb).E (way_in_field fa fb).is (difference_low fa fv l) (differences_order fa fv fb m)
 
 pub uncut_from_high : (a b v : Float) → FieldValue a → FieldValue b → FieldValue v → T (le a v) → T (le b v) → cut_at (sub binary64 b a) (div binary64 (sub binary64 v a) (sub binary64 b a)) ≡ false
 uncut_from_high a b v fa fb fv l m =
-    uncut_ahead (sub binary64 v a) (sub binary64 b a) (way_of fa fv).is (way_of fa fb).E (way_of fa fb).is (difference_high fa fv l) (differences_order fa fb fv m)
+    uncut_ahead (sub binary64 v a) (sub binary64 b a) (way_in_field fa fv).is (way_in_field fa fb).E (way_in_field fa fb).is (difference_high fa fv l) (differences_order fa fb fv m)
 
 -- ---- the marks of such a line
 

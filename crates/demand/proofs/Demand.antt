@@ -19,7 +19,7 @@ use Rattle.accept.specs.declared.Answer.TheVariants.{DistanceWith}
 use Rattle.geometry.specs.Polygon.{contains_of}
 use Rattle.accept.specs.declared.Test.TheVariants.{Passed}
 use Rattle.accept.specs.Refusals.{◌refusing◌when◌, given}
-use Rattle.geometry.specs.Answers.{query_tested, distance_answer}
+use Rattle.geometry.specs.Answers.{outline_query_tested, distance_answer}
 use Rattle.index.specs.Buffer.{IndexBuffer, short_buffer}
 use Rattle.set.specs.Set.{Outline, outlines_of, outline_in}
 use Rattle.set.specs.Tests.{set_tested, set_query_tested}
@@ -52,7 +52,7 @@ module _ (v : List Float) (cs : List ℕ) (passed : set_tested v cs ≡ Passed) 
 
   -- the distance that the call answers is the one whose magnitude is taken
   magnitude_is : (k : ℕ) (l : k < length os) → magnitude_at os p k ≡ abs_of (outline_exact k l).distance.d
-  unfolding magnitude_of distance_answer query_tested given ◌refusing◌when◌
+  unfolding magnitude_of distance_answer outline_query_tested given ◌refusing◌when◌
   magnitude_is k l =
       let o = outline_in os k in
       let e = outline_exact k l in

@@ -45,25 +45,25 @@ abbrev pub Bounded : ℕ → Float → Type 0
 Bounded k x = Ranged (neg (power k)) (power k) x
 
 -- ---- from lo to hi, both finite, is from L to H
-abbrev pub is_held : Float → Bool
-is_held x = fits binary64 x && finite x
+abbrev pub held_number : Float → Bool
+held_number x = fits binary64 x && finite x
 
 abbrev pub inside_range : Float → Float → Float → Float → Bool
-inside_range L H lo hi = (is_held L && is_held H) && ((finite lo && finite hi) && (le L lo && le hi H))
+inside_range L H lo hi = (held_number L && held_number H) && ((finite lo && finite hi) && (le L lo && le hi H))
 
-held_of : (x : Float) → T (is_held x) → Held x
+held_of : (x : Float) → T (held_number x) → Held x
 held_of x t = record { fits = and_l (fits binary64 x) (finite x) t; finite = and_r (fits binary64 x) (finite x) t }
 
 ranged_by : {L H : Float} (lo hi x : Float) → T (fits binary64 lo) → T (fits binary64 hi) → T (fits binary64 x) → T (le lo x) → T (le x hi) → T (inside_range L H lo hi) → Ranged L H x
 ranged_by {L} {H} lo hi x lo-fits hi-fits x_Fits low high t =
-    let ends = and_l (is_held L && is_held H) ((finite lo && finite hi) && (le L lo && le hi H)) t in
-    let rest = and_r (is_held L && is_held H) ((finite lo && finite hi) && (le L lo && le hi H)) t in
+    let ends = and_l (held_number L && held_number H) ((finite lo && finite hi) && (le L lo && le hi H)) t in
+    let rest = and_r (held_number L && held_number H) ((finite lo && finite hi) && (le L lo && le hi H)) t in
     let both = and_l (finite lo && finite hi) (le L lo && le hi H) rest in
     let order = and_r (finite lo && finite hi) (le L lo && le hi H) rest in
     let F = and_l (finite lo) (finite hi) both in
     let G = and_r (finite lo) (finite hi) both in
-    let A = held_of L (and_l (is_held L) (is_held H) ends) in
-    let B = held_of H (and_r (is_held L) (is_held H) ends) in
+    let A = held_of L (and_l (held_number L) (held_number H) ends) in
+    let B = held_of H (and_r (held_number L) (held_number H) ends) in
     let X : Held x = record { fits = x_Fits; finite = finite_between lo x hi F G low high } in
     record {
       from = A;
@@ -77,15 +77,15 @@ pub wider : {L H l h x : Float} → Ranged l h x → T (inside_range L H l h) �
 wider {l = l} {h = h} {x = x} X = ranged_by l h x X.from.fits X.to.fits X.held.fits X.low X.high
 
 -- ---- ranges to begin with: of what was tested, of one number, and of what equals it
-pub tested_range : {lo hi : Float} (x : Float) → T (fits binary64 x) → T (le lo x && le x hi) → T (is_held lo && is_held hi) → Ranged lo hi x
+pub tested_range : {lo hi : Float} (x : Float) → T (fits binary64 x) → T (le lo x && le x hi) → T (held_number lo && held_number hi) → Ranged lo hi x
 tested_range {lo} {hi} x F t u =
-    let A = held_of lo (and_l (is_held lo) (is_held hi) u) in
-    let B = held_of hi (and_r (is_held lo) (is_held hi) u) in
+    let A = held_of lo (and_l (held_number lo) (held_number hi) u) in
+    let B = held_of hi (and_r (held_number lo) (held_number hi) u) in
     let l = and_l (le lo x) (le x hi) t in
     let h = and_r (le lo x) (le x hi) t in
     record { from = A; to = B; held = record { fits = F; finite = finite_between lo x hi A.finite B.finite l h }; low = l; high = h }
 
-pub number_range : (x : Float) → T (is_held x) → Ranged x x x
+pub number_range : (x : Float) → T (held_number x) → Ranged x x x
 number_range x t =
     let X = held_of x t in
     let l = le_self x (held_not_nan X) in
@@ -156,12 +156,12 @@ copysign_range {L} {H} {l} {h} {x} y X s t = subst (Ranged L H) (sym (copysign_n
 
 -- the magnitude of a number from l to h is from L to h
 abbrev pub spans : Float → Float → Float → Bool
-spans L l h = is_held L && (le (neg l) h && (le L zeroᶠ || le L l))
+spans L l h = held_number L && (le (neg l) h && (le L zeroᶠ || le L l))
 
 pub abs_range : {L l h x : Float} → Ranged l h x → T (spans L l h) → Ranged L h (abs_of x)
 abs_range {L} {l} {h} {x} X t =
-    let A = held_of L (and_l (is_held L) (le (neg l) h && (le L zeroᶠ || le L l)) t) in
-    let u = and_r (is_held L) (le (neg l) h && (le L zeroᶠ || le L l)) t in
+    let A = held_of L (and_l (held_number L) (le (neg l) h && (le L zeroᶠ || le L l)) t) in
+    let u = and_r (held_number L) (le (neg l) h && (le L zeroᶠ || le L l)) t in
     let N = held_not_nan X.held in
     record {
       from = A;
@@ -184,9 +184,9 @@ hypot_range {h = h} {x = x} {m = m} {y = y} n D t X Y s u H M =
     let B : Ranged zeroᶠ m (abs_of y) = abs_range Y u in
     let low = hypot_nonneg x y (held_not_nan X.held) (held_not_nan Y.held) in
     let high = hypot_at_most n x y D (le_through (abs_of x) h (power n) A.high H) (le_through (abs_of y) m (power n) B.high M) in
-    let ends = and_l (is_held zeroᶠ && is_held (power (suc n))) _ t in
-    let from = held_of zeroᶠ (and_l (is_held zeroᶠ) (is_held (power (suc n))) ends) in
-    let to = held_of (power (suc n)) (and_r (is_held zeroᶠ) (is_held (power (suc n))) ends) in
+    let ends = and_l (held_number zeroᶠ && held_number (power (suc n))) _ t in
+    let from = held_of zeroᶠ (and_l (held_number zeroᶠ) (held_number (power (suc n))) ends) in
+    let to = held_of (power (suc n)) (and_r (held_number zeroᶠ) (held_number (power (suc n))) ends) in
     record {
       from = from;
       to = to;

@@ -15,7 +15,7 @@ use Rattle.algebra.specs.Int.{*ℤ-assoc}
 use Rattle.algebra.proofs.Lin.{eq, eq_from}
 use Rattle.algebra.proofs.Mono.{within_mul}
 use Rattle.algebra.specs.Sign.{signed, sign}
-use Rattle.algebra.proofs.SignedLaws.{signed_of, nat_abs_signed, mul_signed_pos}
+use Rattle.algebra.proofs.SignedLaws.{signed_of_sign, nat_abs_signed, mul_signed_pos}
 use Rattle.number.specs.Exact.{Is, Sized, eq_z}
 use Rattle.number.specs.Rounding.{Result}
 use Rattle.number.proofs.Operations.{zero_is, rescale, rounds_same, div_rounds}
@@ -79,7 +79,7 @@ module _ {e : Edge} {f : EdgeZ} {p : Point} {q : PointZ} (E : EdgeOn e f) (P : P
     point = q.x *ℤ pos c
 
     d_split : d ≡ i *ℤ pos c
-    d_split = sym (signed_of d) ∙ ap (signed (sign d)) (sym (one-mul c)) ∙ sym (mul_signed_pos (sign d) 1 c)
+    d_split = sym (signed_of_sign d) ∙ ap (signed (sign d)) (sym (one-mul c)) ∙ sym (mul_signed_pos (sign d) 1 c)
 
     i_square : i *ℤ i ≡ pos 1
     i_square = go (sign d)
@@ -116,7 +116,7 @@ module _ {e : Edge} {f : EdgeZ} {p : Point} {q : PointZ} (E : EdgeOn e f) (P : P
     S = record { le = tt }
 
     divided : Result quotient (i *ℤ n *ℤ step) (pos c)
-    divided = div_result 10 10 1064 refl (sign d) (product (difference E.a.x E.b.x) (difference P.y E.b.y)).is (subst (Is 10 (sub binary64 e.a.y e.b.y)) (sym (signed_of d)) d_is.is) C
+    divided = div_result 10 10 1064 refl (sign d) (product (difference E.a.x E.b.x) (difference P.y E.b.y)).is (subst (Is 10 (sub binary64 e.a.y e.b.y)) (sym (signed_of_sign d)) d_is.is) C
         (le_trans n_size (le_trans (le_of_eq (mul_comm (2 ^ 21) c)) (mul-le-mul (le_of_eq refl) (lit≤ tt))))
 
     moved : Result (add binary64 quotient e.b.x) (divided.R +ℤ f.b.x *ℤ step) (pos 1)
@@ -127,7 +127,7 @@ module _ {e : Edge} {f : EdgeZ} {p : Point} {q : PointZ} (E : EdgeOn e f) (P : P
     module _ (same : crossing ≡ point) where
       quotient_is : Is 10 quotient (q.x -ℤ f.b.x)
       quotient_is =
-          let scale = ap (λ (z : ℤ). z *ℤ pos (2 ^ 10)) (sym (signed_of d)) ∙ mul_signed_pos (sign d) c (2 ^ 10) in
+          let scale = ap (λ (z : ℤ). z *ℤ pos (2 ^ 10)) (sym (signed_of_sign d)) ∙ mul_signed_pos (sign d) c (2 ^ 10) in
           let divisor = subst (Is 20 (sub binary64 e.a.y e.b.y)) scale (rescale 10 d_is.is) in
           let once = div_rounds (sign d) (product (difference E.a.x E.b.x) (difference P.y E.b.y)).is divisor (omega (arith, C)) in
           rounds_exact 10 (rounds_same once (lit≤ tt) (scaled i n f.b.x (pos c) q.x (pos (2 ^ 10)) same)) (lit≤ tt) (le_trans (difference P.x E.b.x).near (lit≤ tt))

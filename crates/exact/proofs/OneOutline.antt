@@ -9,7 +9,7 @@ use Rattle.accept.specs.declared.Test.TheVariants.{Passed}
 use Rattle.accept.specs.Area.{area_of}
 use Rattle.geometry.specs.Polygon.{contains_of}
 use Rattle.accept.specs.Refusals.{◌refusing◌when◌, given, outline_tested}
-use Rattle.geometry.specs.Answers.{query_tested, area_answer, locate_answer, contains_answer, distance_answer}
+use Rattle.geometry.specs.Answers.{outline_query_tested, area_answer, locate_answer, contains_answer, distance_answer}
 use Rattle.grid.specs.Grid.{OutlineOn}
 use Rattle.grid.specs.Whole.{PointZ}
 use Rattle.exact.specs.Grid.{PointOn}
@@ -23,7 +23,7 @@ use Rattle.exact.proofs.Tests.{grid_in_field}
 use Rattle.boundary.proofs.OutlineLaws.{few_edges, some_edges}
 
 pub grid_exact : {o : List Float} {p : Point} {q : PointZ} → OutlineOn o → outline_tested o ≡ Passed → PointOn p q → OutlineExact o p q
-unfolding area_answer query_tested locate_answer contains_answer distance_answer given ◌refusing◌when◌
+unfolding area_answer outline_query_tested locate_answer contains_answer distance_answer given ◌refusing◌when◌
 grid_exact {o} {p} g e P =
     let s = shape o (outline_shape_passed o e) in
     let w = edges_on g in

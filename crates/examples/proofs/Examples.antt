@@ -28,7 +28,7 @@ use Rattle.accept.specs.declared.Refusal.TheVariants.{BadPoint, ShortBuffer}
 use Rattle.accept.specs.declared.Test.{Test}
 use Rattle.accept.specs.declared.Test.TheVariants.{Passed}
 use Rattle.accept.specs.Answers.{distance_of, distance_fields}
-use Rattle.geometry.specs.Answers.{query_tested, area_answer, perimeter_answer, contains_answer, locate_answer, distance_answer}
+use Rattle.geometry.specs.Answers.{outline_query_tested, area_answer, perimeter_answer, contains_answer, locate_answer, distance_answer}
 use Rattle.accept.specs.Area.{area_of}
 use Rattle.geometry.specs.Polygon.{contains_of, crosses_of, locate_of, on_edge}
 use Rattle.accept.specs.Refusals.{◌refusing◌when◌, given, count_tested, values_tested, shape_tested, outline_tested}
@@ -94,17 +94,17 @@ in_tenths : DistanceWith (distance_of (um 5) (fin false 5404319552844595 (negsuc
 in_tenths = rw (six_tenths, eight_tenths)
 
 distance_6 : distance_answer S (micro_point 6 2) ≡ DistanceWith (distance_of (um 2) (um 1) (um 0))
-unfolding distance_answer query_tested given ◌refusing◌when◌ outline_tested shape_tested count_tested values_tested area_of contains_of crosses_of
+unfolding distance_answer outline_query_tested given ◌refusing◌when◌ outline_tested shape_tested count_tested values_tested area_of contains_of crosses_of
     odd_many any fold run edges add sub mul div neg lt le eq of_int
 distance_6 = signed_at (micro_point 6 2) false _ _ nearest_6 signed_6
 
 distance_1 : distance_answer S (micro_point 1 2) ≡ DistanceWith (distance_of (neg (um 1)) (neg (um 1)) (neg (um 0)))
-unfolding distance_answer query_tested given ◌refusing◌when◌ outline_tested shape_tested count_tested values_tested area_of contains_of crosses_of
+unfolding distance_answer outline_query_tested given ◌refusing◌when◌ outline_tested shape_tested count_tested values_tested area_of contains_of crosses_of
     odd_many any fold run edges add sub mul div neg lt le eq of_int
 distance_1 = signed_at (micro_point 1 2) true _ _ nearest_1 signed_1
 
 distance_7 : distance_answer S (micro_point 7 8) ≡ DistanceWith (distance_of (um 5) (tenths 6) (tenths 8))
-unfolding distance_answer query_tested given ◌refusing◌when◌ outline_tested shape_tested count_tested values_tested area_of contains_of crosses_of
+unfolding distance_answer outline_query_tested given ◌refusing◌when◌ outline_tested shape_tested count_tested values_tested area_of contains_of crosses_of
     odd_many any fold run edges add sub mul div neg lt le eq of_int
 distance_7 = signed_at (micro_point 7 8) false _ _ nearest_7 signed_7 ∙ in_tenths
 
@@ -177,7 +177,7 @@ a also b = (a, b)
 
 pub starred_hold : AllHold starred
 unfolding AllHold starred
-    area_answer perimeter_answer contains_answer locate_answer query_tested given ◌refusing◌when◌ outline_tested shape_tested count_tested values_tested
+    area_answer perimeter_answer contains_answer locate_answer outline_query_tested given ◌refusing◌when◌ outline_tested shape_tested count_tested values_tested
     area_of contains_of crosses_of locate_of on_edge length_of edge_length
     make_outcome make_tested made_of coordinates_of Rattle.geometry.specs.Making.turned kept kept_count closed at_front
     fill_outcome fill_tested box_fits filled long_of fill_of xdy_of clip_of joined onward joint kept_lines rotated last_kept lead parts parts_of part_of

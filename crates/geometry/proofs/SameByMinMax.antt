@@ -28,7 +28,7 @@ use Rattle.accept.specs.declared.Test.TheVariants.{Passed}
 use Rattle.accept.specs.Refusals.{outline_tested}
 use Rattle.accept.proofs.TestLaws.{refusing_passed, accepted_field}
 use Rattle.geometry.specs.Polygon.{between_ends, on_edge, locate_of, bounds_of, between_rust, on_edge_rust, locate_rust, fold_by, bounds_rust}
-use Rattle.geometry.specs.Answers.{query_tested}
+use Rattle.geometry.specs.Answers.{outline_query_tested}
 
 -- ---- the numbers of an accepted outline
 point_numbers : (p : Point) → T (point_in_field p) → PointOf NotNan p
@@ -79,8 +79,8 @@ on_edge_same p e P E =
     rw (between_same e.a.x e.b.x p.x E.a.x E.b.x P.x, between_same e.a.y e.b.y p.y E.a.y E.b.y P.y)
 
 -- LOCATION
-pub locate_rust_lem : (v : List Float) (p : Point) → query_tested v p ≡ Passed → locate_of (edges v) p ≡ locate_rust (edges v) p
-unfolding locate_of locate_rust edges query_tested
+pub locate_rust_lem : (v : List Float) (p : Point) → outline_query_tested v p ≡ Passed → locate_of (edges v) p ≡ locate_rust (edges v) p
+unfolding locate_of locate_rust edges outline_query_tested
 locate_rust_lem v p passed =
     let two = refusing_passed (outline_tested v) BadPoint (not (point_in_field p)) passed in
     let P = point_numbers p (subst T (sym (not-false (point_in_field p) two.1)) tt) in

@@ -23,16 +23,16 @@ unfoldable pub bounds_answer : List Float → Answer
 bounds_answer v = given (outline_tested v) (Box (bounds_of (vertices v))) Refused
 
 -- ---- queries at a point
-unfoldable pub query_tested : List Float → Point → Test
-query_tested v p = outline_tested v refusing BadPoint when not (point_in_field p)
+unfoldable pub outline_query_tested : List Float → Point → Test
+outline_query_tested v p = outline_tested v refusing BadPoint when not (point_in_field p)
 
 -- yes is 1, and no is 0
 unfoldable pub contains_answer : List Float → Point → Answer
-contains_answer v p = given (query_tested v p) (Count (cond (contains_of (edges v) p) 1 0)) Refused
+contains_answer v p = given (outline_query_tested v p) (Count (cond (contains_of (edges v) p) 1 0)) Refused
 
 unfoldable pub locate_answer : List Float → Point → Answer
-locate_answer v p = given (query_tested v p) (Count (locate_of (edges v) p)) Refused
+locate_answer v p = given (outline_query_tested v p) (Count (locate_of (edges v) p)) Refused
 
 -- signed by `contains`
 unfoldable pub distance_answer : List Float → Point → Answer
-distance_answer v p = given (query_tested v p) (DistanceWith (signed_of (nearest_of (edges v) p) p (contains_of (edges v) p))) Refused
+distance_answer v p = given (outline_query_tested v p) (DistanceWith (signed_of (nearest_of (edges v) p) p (contains_of (edges v) p))) Refused

@@ -22,19 +22,19 @@ use Rattle.lists.proofs.RunLaws.{length_run, run_at}
 use Rattle.tree.proofs.TreeLaws.{left, right, length_left, length_right, tree_induct}
 use Rattle.nodes.proofs.LayoutLaws.{length_below}
 
-abbrev pub box_of : Node → Bounds
-box_of x = record { min = x.lo; max = x.hi }
+abbrev pub box_of_node : Node → Bounds
+box_of_node x = record { min = x.lo; max = x.hi }
 
 -- what stands before the end does not depend on what is said to stand past it
-get_d_default : {A : Type 0} (xs : List A) (i : ℕ) (d e : A) → i < length xs → get_or xs i d ≡ get_or xs i e
-get_d_default [] i d e h = absurd (omega arith)
-get_d_default (x ∷ xs) zero d e h = refl
-get_d_default (x ∷ xs) (suc i) d e h = get_d_default xs i d e (omega arith)
+get_or_default : {A : Type 0} (xs : List A) (i : ℕ) (d e : A) → i < length xs → get_or xs i d ≡ get_or xs i e
+get_or_default [] i d e h = absurd (omega arith)
+get_or_default (x ∷ xs) zero d e h = refl
+get_or_default (x ∷ xs) (suc i) d e h = get_or_default xs i d e (omega arith)
 
 module _ (B : List Float) (L I : List ℕ) where
   -- node n is x
   pub record NodeIs (n : ℕ) (x : Node) : Type 0 where
-    pub box : box_at B n ≡ box_of x
+    pub box : box_at B n ≡ box_of_node x
     pub first : first_at L n ≡ x.first
     pub count : count_at L n ≡ x.count
 
@@ -72,7 +72,7 @@ module _ (B : List Float) (L I : List ℕ) where
       own = same (next + 0) next _ (node_of l at (next + 2)) (omega arith) refl (h.rest 0 (omega arith));
       rest = λ j k.
           same (next + suc (suc j)) (next + 2 + j) _ (get_or (nodes_below l at (next + 2)) j (node_of l at (next + 2))) (omega arith)
-          (get_or-append (nodes_below l at (next + 2)) (nodes_below r second free) _ j (rw (length_below l at (next + 2)) k) ∙ get_d_default (nodes_below l at (next + 2)) j _ _ (rw (length_below l at (next + 2)) k))
+          (get_or-append (nodes_below l at (next + 2)) (nodes_below r second free) _ j (rw (length_below l at (next + 2)) k) ∙ get_or_default (nodes_below l at (next + 2)) j _ _ (rw (length_below l at (next + 2)) k))
           (h.rest (suc (suc j)) (omega arith));
       items = (two_runs at (items_of l) (items_of r) h.items).0;
     }
@@ -84,7 +84,7 @@ module _ (B : List Float) (L I : List ℕ) where
       rest = λ j k.
           let n = length_below l at (next + 2) in
           same (next + suc (suc (extra l + j))) (free + j) _ (get_or (nodes_below r second free) j (node_of r second free)) (omega arith)
-          (ap (λ (m : ℕ). get_or (nodes_below l at (next + 2) ++ nodes_below r second free) (m + j) (node_of (inner b l r) at next)) (sym n) ∙ get_or-append-add (nodes_below l at (next + 2)) (nodes_below r second free) j _ ∙ get_d_default (nodes_below r second free) j _ _ (rw (length_below r second free) k))
+          (ap (λ (m : ℕ). get_or (nodes_below l at (next + 2) ++ nodes_below r second free) (m + j) (node_of (inner b l r) at next)) (sym n) ∙ get_or-append-add (nodes_below l at (next + 2)) (nodes_below r second free) j _ ∙ get_or_default (nodes_below r second free) j _ _ (rw (length_below r second free) k))
           (h.rest (suc (suc (extra l + j))) (omega arith));
       items = (two_runs at (items_of l) (items_of r) h.items).1;
     }

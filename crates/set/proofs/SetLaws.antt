@@ -25,7 +25,7 @@ use Rattle.boundary.specs.Boxes.{box_fits}
 use Rattle.index.specs.Answers.{boxes_tested}
 use Rattle.lists.proofs.StoreLaws.{flat_length}
 use Rattle.lists.proofs.RunLaws.{length_run, run_at}
-use Rattle.boxes.proofs.EntryLaws.{box_held}
+use Rattle.boxes.proofs.EntryLaws.{box_as_given}
 use Rattle.number.specs.Exact.{Doubles}
 use Rattle.set.specs.Set.{Outline, start_of, outline_at, outlines_of, outline_in, outline_box, set_box, set_boxes, Fit, Fitting, DoubleSet}
 use Rattle.set.specs.Tests.{adds_up, any_many, over_size, lists_tested, outlines_tested, set_tested}
@@ -247,7 +247,7 @@ module _ (os : List Outline) where
   boxes_length = flat_length (λ o. box_numbers (outline_box o)) 4 (λ _. refl) os
 
   pub box_at_set : (k : ℕ) → k < length os → box_at (set_boxes os) k ≡ set_box os k
-  box_at_set k l = ap (λ (s : List Float). box_at s k) boxes_flat ∙ box_held (set_box os) (length os) k l
+  box_at_set k l = ap (λ (s : List Float). box_at s k) boxes_flat ∙ box_as_given (set_box os) (length os) k l
 
   module _ (fit : Fitting os) where
     pub outline_in_field : (k : ℕ) → k < length os → outside_field (outline_in os k) ≡ false
