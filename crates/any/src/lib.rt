@@ -29,7 +29,7 @@ fn any_holds(v: &[f64], counts: &[u32], starts: &[u32], list: &[u32], p: Point) 
 {
     let mut i = 0;
     while i < list.len() {
-        if holds_at(v, counts, starts, lists::at(list, i) as usize, p) {
+        if holds_at(v, counts, starts, lists::at(list, i, 0) as usize, p) {
             return true;
         }
         i += 1;

@@ -55,10 +55,10 @@ fn put_tested(v: &mut [f64], i: usize, b: Bounds)
     ensures { v.new ≡ sets v.old (4 * i) (box_numbers b) }
 {
     let k = 4 * i;
-    lists::put_number(v, k, b.min.x);
-    lists::put_number(v, k + 1, b.min.y);
-    lists::put_number(v, k + 2, b.max.x);
-    lists::put_number(v, k + 3, b.max.y);
+    lists::put(v, k, b.min.x);
+    lists::put(v, k + 1, b.min.y);
+    lists::put(v, k + 2, b.max.x);
+    lists::put(v, k + 3, b.max.y);
 }
 
 // The same with one test for all four numbers.
@@ -124,8 +124,8 @@ pub fn widen(boxes: &[f64], wide: &mut [f64], xs: &mut [f64], ys: &mut [f64])
         let b = widened(box_at(boxes, i));
         let c = centre(b);
         put_box(wide, i, b);
-        lists::put_number(xs, i, c.x);
-        lists::put_number(ys, i, c.y);
+        lists::put(xs, i, c.x);
+        lists::put(ys, i, c.y);
         i += 1;
     }
 }

@@ -181,6 +181,6 @@ pub fn fill_in(v: &[f64], c: Bounds, w: &mut [f64]) -> Answer
 {
     let half = w.len() / 8;
     let answer = fill_by(v, c, w, half);
-    lists::clear_numbers(w, 8 * half);
+    lists::clear(w, 8 * half, 0.0);
     answer
 }

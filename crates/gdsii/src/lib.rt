@@ -170,7 +170,7 @@ fn write_outline(
     ensures set_after { set_lent vertices.new counts.new ≡ written_at done (steps_from s.now from n) (set_lent vertices.old counts.old) }
 {
     let at = 2 * (done.vertices as usize);
-    let back = lists::at(signs, done.outlines as usize) == 1;
+    let back = lists::at(signs, done.outlines as usize, 0) == 1;
     let m = xy::write_made(s, from, n, back, &mut vertices[at..]);
     lists::put(counts, done.outlines as usize, m);
     Size {

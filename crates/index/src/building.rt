@@ -163,7 +163,7 @@ pub fn clear(corners: &mut [f64], links: &mut [u32], items: &mut [u32])
     ensures { buffer corners.new links.new items.new
         ≡ cleared (buffer corners.old links.old items.old) }
 {
-    lists::clear_numbers(corners, 2044);
-    lists::clear_counts(links, 1022);
-    lists::clear_counts(items, 1024);
+    lists::clear(corners, 2044, 0.0);
+    lists::clear(links, 1022, 0);
+    lists::clear(items, 1024, 0);
 }

@@ -5,7 +5,8 @@ use Prim.Native.Nat.{ℕ, zero, suc, ◌+◌, ◌-◌, ◌≤◌, ◌<◌}
 use native.Mathlib.Nat.{not-suc-le-zero, le_of_suc-le-suc}
 use native.Mathlib.Numerals.{add-one}
 use native.Mathlib.Omega.{arith}
-use lib.ListN.{length, get_or, set, drop, replicate, length-set, length-replicate, get_or-append}
+use lib.ListN.{length, get_or, set, take, drop, replicate, length-replicate, get_or-append}
+use Rattle.std.proofs.lemmas.List.{append-nil, length-take-le, drop_all}
 use lib.Seq.{drop-append-add, drop-cons, drop-drop, get_or-append-add, get_or-drop, set_at, append_snoc}
 use Rattle.lists.specs.Lists.{run, at_front, zeros}
 use Rattle.lists.proofs.RunLaws.{run_last, length_run}
@@ -59,25 +60,13 @@ module _ {A : Type 0} (z : A) where
   pub zeros_past : (n : ℕ) (s t : List A) → drop n s ≡ drop n t → at_front (zeros z n) s ≡ at_front (zeros z n) t
   zeros_past n s t e = zeros_front n s ∙ ap (λ (r : List A). replicate n z ++ r) e ∙ sym (zeros_front n t)
 
-  -- the list s₀ has become s, with zeros in the first i places
-  pub record Clearing (s₀ : List A) (n : ℕ) (s : List A) (i : ℕ) : Type 0 where
-    pub within : i ≤ n
-    pub same : length s ≡ length s₀
-    pub zeroed : s ≡ replicate i z ++ drop i s₀
+  -- z put to the places of a list one after the other: the next place
+  pub next_place : (t₀ : List A) (i : ℕ) (t : List A) → t ≡ replicate i z ++ drop i t₀ → i < length t₀ → set t i z ≡ replicate (i + 1) z ++ drop (i + 1) t₀
+  next_place t₀ i t e l = rw (e, add-one) (set_next i t₀ l)
 
-  module _ (s₀ : List A) (n : ℕ) where
-    pub clearing_none : Clearing s₀ n s₀ 0
-    clearing_none = record { within = omega arith; same = refl; zeroed = refl }
-
-    pub clearing_more : (s : List A) (i : ℕ) → n ≤ length s₀ → Clearing s₀ n s i → i < n → Clearing s₀ n (set s i z) (i + 1)
-    clearing_more s i h c l = record {
-      within = omega arith;
-      same = length-set s i z ∙ c.same;
-      zeroed = rw (c.zeroed, add-one) (set_next i s₀ (omega arith));
-    }
-
-    pub clearing_all : (s : List A) (i : ℕ) → Clearing s₀ n s i → n ≤ i → s ≡ at_front (zeros z n) s₀
-    clearing_all s i c l =
-        let w = c.within in
-        let e : i ≡ n = omega arith in
-        c.zeroed ∙ ap (λ (k : ℕ). replicate k z ++ drop k s₀) e ∙ sym (zeros_front n s₀)
+  -- all of the first n places of s
+  pub all_places : (s : List A) (n i : ℕ) (t : List A) → n ≤ length s → t ≡ replicate i z ++ drop i (take n s) → i ≡ n → t ++ drop n s ≡ at_front (zeros z n) s
+  all_places s n i t h e k =
+      let m : length (take n s) ≤ n = omega (arith, length-take-le n s h) in
+      let none : drop n (take n s) ≡ [] = drop_all n (take n s) m in
+      rw (e, k, none, append-nil) (sym (zeros_front n s))

@@ -1,19 +1,26 @@
 // Lent lists: read and written with the bounds test inside, and cleared.
 #![tactic(auto)]
 
-ghost use Rattle.std.specs.Prelude.{false, ◌≡◌, ◌≤◌, pos, length, get_or, set};
-ghost use Rattle.std.specs.Float.{nan, fin};
+ghost use Rattle.std.specs.Prelude.{◌≡◌, ◌≤◌, length, get_or, set};
+ghost use Rattle.std.specs.Float.{nan};
 ghost use Rattle.lists.specs.Lists.{at_front, zeros};
 
-// The member at i, 0 past the end.
-pub fn at(s: &[u32], i: usize) -> u32
-    ensures { result ≡ get_or s.now i 0 }
+// The member at i, `none` past the end.
+pub fn at<T: Copy>(s: &[T], i: usize, none: T) -> T
+    ensures { result ≡ get_or s.now i none }
 {
-    if i < s.len() { s[i] } else { 0 }
+    if i < s.len() { s[i] } else { none }
+}
+
+// The number at i, NaN past the end.
+pub fn number_at(v: &[f64], i: usize) -> f64
+    ensures { result ≡ get_or v.now i nan }
+{
+    at(v, i, 0.0 / 0.0)
 }
 
 // Stores x at i; nothing past the end.
-pub fn put(s: &mut [u32], i: usize, x: u32)
+pub fn put<T: Copy>(s: &mut [T], i: usize, x: T)
     ensures { s.new ≡ set s.old i x }
 {
     if i < s.len() {
@@ -21,42 +28,12 @@ pub fn put(s: &mut [u32], i: usize, x: u32)
     }
 }
 
-// The number at i, NaN past the end.
-pub fn number_at(v: &[f64], i: usize) -> f64
-    ensures { result ≡ get_or v.now i nan }
-{
-    if i < v.len() { v[i] } else { 0.0 / 0.0 }
-}
-
-// Stores x at i; nothing past the end.
-pub fn put_number(v: &mut [f64], i: usize, x: f64)
-    ensures { v.new ≡ set v.old i x }
-{
-    if i < v.len() {
-        v[i] = x;
-    }
-}
-
-// Zeros, each +0, in the first n places.
-pub fn clear_numbers(s: &mut [f64], n: usize)
+// x in each of the first n places.
+pub fn clear<T: Copy>(s: &mut [T], n: usize, x: T)
     requires { n ≤ length s.old }
-    ensures { s.new ≡ at_front (zeros (fin false 0 (pos 0)) n) s.old }
+    ensures { s.new ≡ at_front (zeros x n) s.old }
 {
-    let mut i = 0;
-    while i < n {
-        s[i] = 0.0;
-        i += 1;
-    }
-}
-
-// The same of whole numbers.
-pub fn clear_counts(s: &mut [u32], n: usize)
-    requires { n ≤ length s.old }
-    ensures { s.new ≡ at_front (zeros 0 n) s.old }
-{
-    let mut i = 0;
-    while i < n {
-        s[i] = 0;
-        i += 1;
+    for place in s[..n].iter_mut() {
+        *place = x;
     }
 }

@@ -97,7 +97,7 @@ fn put_answers_in(
             v, counts, starts, boxes, p, corners, links, items, nodes, gaps,
         );
         lists::put(near, i, best.outline);
-        lists::put_number(distances, i, best.distance);
+        lists::put(distances, i, best.distance);
         i += 1;
     }
 }

@@ -38,7 +38,7 @@ fn copy(items: &[u32], first: usize, count: usize, list: &mut [u32], k: usize) -
     let mut i = 0;
     let mut j = k;
     while i < count {
-        j = push(list, j, lists::at(items, first + i));
+        j = push(list, j, lists::at(items, first + i, 0));
         i += 1;
     }
     j
@@ -75,8 +75,8 @@ fn visit(
     if misses(corners, n, c) {
         return k;
     }
-    let first = lists::at(links, 2 * n) as usize;
-    let count = lists::at(links, 2 * n + 1) as usize;
+    let first = lists::at(links, 2 * n, 0) as usize;
+    let count = lists::at(links, 2 * n + 1, 0) as usize;
     if count > 0 {
         return copy(items, first, count, list, k);
     }

@@ -38,7 +38,7 @@ fn parted_out(keys: &[f64], v: f64, list: &[u32], work: &mut [u32]) -> usize
     let mut a: usize = 0;
     let mut i: usize = 0;
     while i < n {
-        let x = lists::at(list, i);
+        let x = lists::at(list, i, 0);
         let c = bit(key_of(keys, x) < v);
         lists::put(work, a, x);
         lists::put(work, n - 1 - (i - a), x);
@@ -55,7 +55,7 @@ fn parted_in(keys: &[f64], v: f64, part: &mut [u32]) -> usize
     let mut a: usize = 0;
     let mut i: usize = 0;
     while i < part.len() {
-        let x = lists::at(part, i);
+        let x = lists::at(part, i, 0);
         let y = part[a];
         let c = bit(key_of(keys, x) < v);
         part[i] = y;
@@ -71,7 +71,7 @@ fn up_to(keys: &[f64], v: f64, part: &[u32], level: bool) -> usize {
     let mut a: usize = 0;
     let mut i: usize = 0;
     while i < part.len() {
-        let k = key_of(keys, lists::at(part, i));
+        let k = key_of(keys, lists::at(part, i, 0));
         a += bit((k < v) | (level & (k == v)));
         i += 1;
     }
@@ -153,7 +153,7 @@ fn most(s: FourKeys) -> f64 {
 // The key of the item at i of part, `none` past the end.
 fn key_or(keys: &[f64], part: &[u32], i: usize, none: f64) -> f64 {
     if i < part.len() {
-        key_of(keys, lists::at(part, i))
+        key_of(keys, lists::at(part, i, 0))
     } else {
         none
     }
@@ -231,7 +231,7 @@ fn between(l: f64, h: f64, r: usize, n: usize) -> f64 {
 fn tried(keys: &[f64], l: f64, h: f64, part: &[u32], r: usize, own: bool) -> f64 {
     let n = part.len();
     if own {
-        return key_of(keys, lists::at(part, n / 2));
+        return key_of(keys, lists::at(part, n / 2, 0));
     }
     between(l, h, r, n)
 }
@@ -321,7 +321,7 @@ fn window(keys: &[f64], l: f64, h: f64, list: &[u32], work: &mut [u32]) -> Brack
     let mut c: usize = 0;
     let mut i: usize = 0;
     while i < list.len() {
-        let x = lists::at(list, i);
+        let x = lists::at(list, i, 0);
         let k = key_of(keys, x);
         work[c] = x;
         a += bit(k < l);
@@ -377,7 +377,7 @@ fn tied(keys: &[f64], v: f64, list: &[u32], r: usize) -> u32 {
     let mut c: usize = 0;
     let mut i: usize = 0;
     while i < list.len() {
-        let x = lists::at(list, i);
+        let x = lists::at(list, i, 0);
         let e = key_of(keys, x) == v;
         t = chosen(e & (c == r), x, t);
         c += bit(e);

@@ -34,8 +34,8 @@ fn node_in(corners: &[f64], links: &[u32], i: usize) -> Node
     Node {
         lo,
         hi,
-        first: lists::at(links, k),
-        count: lists::at(links, k + 1),
+        first: lists::at(links, k, 0),
+        count: lists::at(links, k + 1, 0),
     }
 }
 

@@ -140,7 +140,7 @@ fn look(
     let mut kept = start;
     let mut i = 0;
     while i < count {
-        let k = lists::at(items, (first as usize) + (i as usize));
+        let k = lists::at(items, (first as usize) + (i as usize), 0);
         kept = look_at(v, counts, starts, boxes, k, p, kept);
         i += 1;
     }
@@ -186,8 +186,8 @@ pub fn search_in(
         }
         n -= 1;
         let k = 2 * (e.node as usize);
-        let first = lists::at(links, k);
-        let count = lists::at(links, k + 1);
+        let first = lists::at(links, k, 0);
+        let count = lists::at(links, k + 1, 0);
         if count > 0 {
             kept = look(v, counts, starts, boxes, items, first, count, p, kept);
         } else {

@@ -19,7 +19,7 @@ pub fn put_starts(counts: &[u32], starts: &mut [u32])
     let mut k = 0;
     while k < counts.len() {
         lists::put(starts, k, sum);
-        sum = sum + lists::at(counts, k);
+        sum = sum + lists::at(counts, k, 0);
         k += 1;
     }
 }
@@ -38,8 +38,8 @@ pub fn outline_at<'a>(v: &'a [f64], counts: &[u32], starts: &[u32], k: usize) ->
     ensures { result.now ≡ outline_in (outlines_of v.now counts.now) k }
 {
     if k < counts.len() {
-        let at = 2 * (lists::at(starts, k) as usize);
-        let end = at + 2 * (lists::at(counts, k) as usize);
+        let at = 2 * (lists::at(starts, k, 0) as usize);
+        let end = at + 2 * (lists::at(counts, k, 0) as usize);
         return outline_from(v, at, end);
     }
     outline_from(v, 0, 0)
@@ -61,7 +61,7 @@ pub fn put_boxes(v: &[f64], counts: &[u32], boxes: &mut [f64])
     let mut at = 0;
     let mut k = 0;
     while k < counts.len() {
-        let end = at + 2 * (lists::at(counts, k) as usize);
+        let end = at + 2 * (lists::at(counts, k, 0) as usize);
         put_box(v, at, end, boxes, k);
         at = end;
         k += 1;

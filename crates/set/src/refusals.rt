@@ -20,7 +20,7 @@ fn adds_up(counts: &[u32], n: usize) -> bool
     let mut left = n;
     let mut k = 0;
     while k < counts.len() {
-        let c = lists::at(counts, k) as usize;
+        let c = lists::at(counts, k, 0) as usize;
         if left < c {
             return false;
         }
@@ -38,7 +38,7 @@ fn any_off(counts: &[u32], few: bool) -> bool
     let mut found = false;
     let mut k = 0;
     while k < counts.len() {
-        found = found | is_off(few, lists::at(counts, k));
+        found = found | is_off(few, lists::at(counts, k, 0));
         k += 1;
     }
     found
@@ -83,7 +83,7 @@ fn least_failed(v: &[f64], counts: &[u32]) -> u32
     let mut at = 0;
     let mut k = 0;
     while k < counts.len() {
-        let end = at + 2 * (lists::at(counts, k) as usize);
+        let end = at + 2 * (lists::at(counts, k, 0) as usize);
         least = lesser(least, rank_in(v, at, end));
         at = end;
         k += 1;

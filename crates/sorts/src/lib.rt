@@ -55,7 +55,7 @@ fn from_first(keys: &[f64], a: &[u32], i: usize, b: &[u32], j: usize) -> bool
 {
     if i < a.len() {
         if j < b.len() {
-            return before(keys, lists::at(a, i), lists::at(b, j));
+            return before(keys, lists::at(a, i, 0), lists::at(b, j, 0));
         }
         return true;
     }
@@ -71,10 +71,10 @@ fn merged(keys: &[f64], a: &[u32], b: &[u32], s: &mut [u32])
     let mut j: usize = 0;
     while i + j < s.len() {
         if from_first(keys, a, i, b, j) {
-            lists::put(s, i + j, lists::at(a, i));
+            lists::put(s, i + j, lists::at(a, i, 0));
             i += 1;
         } else {
-            lists::put(s, i + j, lists::at(b, j));
+            lists::put(s, i + j, lists::at(b, j, 0));
             j += 1;
         }
     }
@@ -87,7 +87,7 @@ fn copied(s: &[u32], t: &mut [u32])
 {
     let mut i: usize = 0;
     while i < s.len() {
-        lists::put(t, i, lists::at(s, i));
+        lists::put(t, i, lists::at(s, i, 0));
         i += 1;
     }
 }
@@ -141,7 +141,7 @@ fn dealt(keys: &[f64], v: f64, x: u32, s: &mut [u32], t: &mut [u32]) -> usize
     let mut a: usize = 0;
     let mut i: usize = 0;
     while i < s.len() {
-        let y = lists::at(s, i);
+        let y = lists::at(s, i, 0);
         let c = is_ahead(key(keys, y), y, v, x);
         s[a] = y;
         t[i - a] = y;

@@ -18,7 +18,7 @@ pub fn hull_of(wide: &[f64], list: &[u32]) -> Bounds
     let mut b = hulls::empty_box();
     let mut i = 0;
     while i < list.len() {
-        let k = lists::at(list, i) as usize;
+        let k = lists::at(list, i, 0) as usize;
         b = hulls::around(b, boxes::box_at(wide, k));
         i += 1;
     }
@@ -64,7 +64,7 @@ pub fn spans_of(wide: &[f64], xs: &[f64], ys: &[f64], list: &[u32]) -> Spans
     };
     let mut i = 0;
     while i < list.len() {
-        let k = lists::at(list, i) as usize;
+        let k = lists::at(list, i, 0) as usize;
         s = spanned(s, wide, xs, ys, k);
         i += 1;
     }

@@ -10,4 +10,4 @@ returns c =
     let k = 4 * c.args.i in
     let two : k + 2 ≡ suc (suc k) = omega arith in
     let three : k + 3 ≡ suc (suc (suc k)) = omega arith in
-    rw (c.put_number-4.ensures, c.put_number-3.ensures, c.put_number-2.ensures, c.put_number.ensures, add-one, two, three)
+    rw (c.put-4.ensures, c.put-3.ensures, c.put-2.ensures, c.put.ensures, add-one, two, three)

@@ -25,8 +25,8 @@ loop-i-preserved c =
     let centre : c.centre-c.result ≡ centre_of (wide_at boxes c.loop-i.i) = c.centre-c.ensures ∙ ap centre_of wide in (
       search rules,
       flat_more box_numbers 4 (λ _. refl) _ _ _ (wide_at boxes) _ _ inv.1 wide c.put_box.ensures,
-      sets_more _ _ _ (λ j. (centre_of (wide_at boxes j)).x) _ _ inv.2 (ap (λ (p : Point). p.x) centre) c.put_number.ensures,
-      sets_more _ _ _ (λ j. (centre_of (wide_at boxes j)).y) _ _ inv.3 (ap (λ (p : Point). p.y) centre) c.put_number-in-loop-i.ensures,
+      sets_more _ _ _ (λ j. (centre_of (wide_at boxes j)).x) _ _ inv.2 (ap (λ (p : Point). p.x) centre) c.put.ensures,
+      sets_more _ _ _ (λ j. (centre_of (wide_at boxes j)).y) _ _ inv.3 (ap (λ (p : Point). p.y) centre) c.put-in-loop-i.ensures,
     )
 
 pub shape_of-wide : goal.shape_of-wide

@@ -4,4 +4,4 @@ use lib.Seq.{set_out}
 use Rattle.lists.proofs.put.Goals as goal
 
 pub returns-else-i-s : goal.returns-else-i-s
-returns-else-i-s c = sym (set_out _ _ _ c.if-i-s.false)
+returns-else-i-s g c = sym (set_out _ _ _ c.if-i-s.false)

@@ -45,7 +45,7 @@ loop-i-preserved c =
     let f = rw c.vertex_at-p.ensures at c.search_in-best.ensures in (
       omega arith,
       sets_more _ _ _ (λ k. (answer_at os a.ps.now k).outline) _ _ l.loop-i.invariant.1 (ap (λ (x : Best). x.outline) f ∙ ap (λ (x : NearestFields). x.outline) e) c.put.ensures,
-      sets_more _ _ _ (λ k. (answer_at os a.ps.now k).distance) _ _ l.loop-i.invariant.2 (ap (λ (x : Best). x.distance) f ∙ ap (λ (x : NearestFields). x.distance) e) c.put_number.ensures,
+      sets_more _ _ _ (λ k. (answer_at os a.ps.now k).distance) _ _ l.loop-i.invariant.2 (ap (λ (x : Best). x.distance) f ∙ ap (λ (x : NearestFields). x.distance) e) c.put.ensures,
       c.nodes-1.given ∙ l.loop-i.invariant.3,
       c.gaps-1.given ∙ l.loop-i.invariant.4,
     )

@@ -11,11 +11,11 @@ use Rattle.fill.proofs.cell.fill_in.Goals as goal
 pub fill_by-answer-requires : goal.fill_by-answer-requires
 fill_by-answer-requires c = let q = c.requires in (q.0, q.1, q.2, refl)
 
-pub clear_numbers-requires : goal.clear_numbers-requires
-clear_numbers-requires c = rw c.fill_by-answer.ensures.1 (omega arith)
+pub clear-requires : goal.clear-requires
+clear-requires c = rw c.fill_by-answer.ensures.1 (omega arith)
 
 pub returns : goal.returns
 returns c =
     let f = c.fill_by-answer.ensures in
     let w = c.args.w.now in
-    rw (f.0, c.clear_numbers.ensures, zeros_past zeroᶠ (8 * half_of (length w)) _ w f.2)
+    rw (f.0, c.clear.ensures, zeros_past zeroᶠ (8 * half_of (length w)) _ w f.2)

@@ -5,5 +5,5 @@ use Rattle.index.proofs.building.clear.Goals as goal
 
 pub returns : goal.returns
 unfolding cleared
-returns c = same_buffer c.clear_numbers.ensures
-    c.clear_counts.ensures c.clear_counts-2.ensures
+returns c = same_buffer c.clear.ensures
+    c.clear-2.ensures c.clear-3.ensures
