@@ -11,7 +11,7 @@ use Rattle.accept.specs.declared.Refusal.{Refusal}
 use Rattle.accept.specs.declared.Refusal.TheVariants.{NegativeArea}
 use Rattle.std.proofs.Common.{Ok, Err}
 use Rattle.accept.specs.Area.{area_of}
-use Rattle.accept.specs.Refusals.{Answer, Test, passed, ◌refusing◌when◌, given, negative_area}
+use Rattle.accept.specs.Refusals.{Answer, Test, all_passed, ◌refusing◌when◌, given, negative_area}
 use Rattle.accept.specs.Verdicts.{test_of}
 use Rattle.accept.proofs.TestLaws.{given_map, given_itself}
 
@@ -19,7 +19,7 @@ pub test_of_verdict : (t : Test) (a : Float) → test_of (given t (Ok a) Err) �
 test_of_verdict t a = given_map test_of t (Ok a) Err ∙ given_itself t
 
 -- an area was handed over: the tests are passed, and it is the outline's
-pub area_passed : (t : Test) (a b : Float) → given t (Ok a) Err ≡ Ok b → (t ≡ passed) × (a ≡ b)
+pub area_passed : (t : Test) (a b : Float) → given t (Ok a) Err ≡ Ok b → (t ≡ all_passed) × (a ≡ b)
 unfolding given
 area_passed (Ok _) a b e = (refl, cc)
 area_passed (Err r) a b e = let z : ◌≡◌ {A = ℕ} 0 1 = cc in absurd (omega arith)

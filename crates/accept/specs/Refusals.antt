@@ -39,14 +39,14 @@ Answer A = Result A Refusal
 abbrev pub Test : Type 0
 Test = Answer (Unit {0})
 
-abbrev pub passed : Test
-passed = Ok tt
+abbrev pub all_passed : Test
+all_passed = Ok tt
 
 -- ---- a test after those before it
 -- what t says; where it says that those before are passed, the test that refuses with r when `fails` holds
 infixl 20 ◌refusing◌when◌
 unfoldable pub ◌refusing◌when◌ : Test → Refusal → Bool → Test
-(Ok _) refusing r when fails = cond fails (Err r) passed
+(Ok _) refusing r when fails = cond fails (Err r) all_passed
 (Err q) refusing r when fails = Err q
 
 -- ---- given a test
@@ -81,7 +81,7 @@ negative_area v = lt (area_of (edges v)) zeroᶠ
 unfoldable pub count_tested : List Float → Test
 unfolding ◌refusing◌when◌
 count_tested v =
-    passed refusing OddCount when eqb (length v % 2) 1
+    all_passed refusing OddCount when eqb (length v % 2) 1
     refusing TooFew when ltb (count v) 3
     refusing TooMany when ltb 4096 (count v)
 
@@ -89,7 +89,7 @@ count_tested v =
 unfoldable pub values_tested : List Float → Test
 unfolding ◌refusing◌when◌ any neg le eq edges area_of
 values_tested v =
-    passed refusing NotFinite when not_finite v
+    all_passed refusing NotFinite when not_finite v
     refusing OutsideField when outside_field v
     refusing EqualNeighbours when equal_neighbours v
     refusing ZeroArea when zero_area v

@@ -9,7 +9,7 @@ ghost use Rattle.lists.specs.Lists.{any};
 ghost use Rattle.boundary.specs.Outline.{same_point, edges};
 ghost use Rattle.accept.specs.declared.Refusal.TheVariants.{NegativeArea};
 ghost use Rattle.accept.specs.Area.{shoelace_term, two, area_of};
-ghost use Rattle.accept.specs.Refusals.{Test, passed, ◌refusing◌when◌, given, number, negative_area, equal_neighbours, values_tested, shape_tested, outline_tested};
+ghost use Rattle.accept.specs.Refusals.{Test, all_passed, ◌refusing◌when◌, given, number, negative_area, equal_neighbours, values_tested, shape_tested, outline_tested};
 ghost use Rattle.accept.specs.Verdicts.{edges_verdict, test_of};
 
 use crate::Refusal;
@@ -207,7 +207,7 @@ pub fn outline_tested(v: &[f64]) -> Result<(), Refusal>
 
 // A test: it refuses with r when `fails` holds.
 pub fn refuse_when(fails: bool, r: Refusal) -> Result<(), Refusal>
-    ensures { result ≡ (passed refusing r when fails) }
+    ensures { result ≡ (all_passed refusing r when fails) }
 {
     if fails { Err(r) } else { Ok(()) }
 }

@@ -1,15 +1,11 @@
 -- The tests of a box list, in document 01's order, and all that building leaves. Definitions only.
+use Rattle.std.specs.Prelude.{Ok, Err}
 use Rattle.std.specs.Prelude.{◌≡◌, not, List, ℕ, ◌%◌, ◌*◌, ◌≤◌, eqb, ltb, length, Float}
 use Rattle.boundary.specs.Boxes.{box_fits}
 use Rattle.lists.specs.Lists.{any}
 use Rattle.accept.specs.declared.Refusal.TheVariants.{TooMany, BadBox, ShortBuffer}
-use Rattle.accept.specs.declared.Test.{Test}
-use Rattle.accept.specs.declared.Test.TheVariants.{Passed}
 use Rattle.accept.specs.Answers.{Outcome}
-use Rattle.accept.specs.Refusals.{number, given, ◌refusing◌when◌}
-use Rattle.index.specs.declared.Built.{Built}
-use Rattle.index.specs.declared.Built.TheVariants.{Refused, Sized}
-use Rattle.index.specs.declared.BuildFields.{BuildFields}
+use Rattle.accept.specs.Refusals.{Answer, Test, all_passed, number, given, ◌refusing◌when◌}
 use Rattle.index.specs.Buffer.{IndexBuffer, short_buffer, holding, corner_places, link_places, item_places}
 use Rattle.boxes.specs.BoxLists.{boxes_of}
 use Rattle.tree.specs.Tree.{index_of, items_of}
@@ -19,7 +15,7 @@ use Rattle.nodes.specs.Layout.{nodes_of}
 unfoldable pub boxes_tested : List Float → Test
 unfolding box_fits boxes_of any ◌refusing◌when◌
 boxes_tested v =
-    Passed
+    all_passed
     refusing TooMany when ltb 4096 (length v)
     refusing BadBox when not (eqb (length v % 4) 0)
     refusing BadBox when any (λ b. not (box_fits b)) (boxes_of v)
@@ -51,11 +47,11 @@ unfoldable pub build_outcome : List Float → IndexBuffer → Outcome Built Inde
 unfolding build_tested given
 build_outcome v B = given (build_tested v B)
     (record { answer = Sized (length (nodes_of (index_of v))) (length (items_of (index_of v))); lent = holding (index_of v) B })
-    (λ r. record { answer = Refused r; lent = B })
+    (λ r. record { answer = Err r; lent = B })
 
 -- what the call returns and puts into its answer fields: a refusal gives its number, and zeros
 abbrev pub build_fields_of : Built → BuildFields
-build_fields_of (Refused r) = record { number = number r; nodes = 0; items = 0 }
+build_fields_of (Err r) = record { number = number r; nodes = 0; items = 0 }
 build_fields_of (Sized n k) = record { number = 0; nodes = n; items = k }
 
 -- the same outcome, with the answer in its fields

@@ -1,4 +1,5 @@
 -- The trees that the Rust's `build` gives, in the Rust's own words (document 01, index.rs). Definitions only.
+use Rattle.std.specs.Prelude.{Ok}
 use Rattle.std.specs.Prelude.{◌≡◌, List, ℕ, ◌/◌, ◌≤◌, ◌<◌, leb, length, take, drop, Float}
 use Rattle.boundary.specs.declared.Point.{Point}
 use Rattle.boundary.specs.declared.Bounds.{Bounds}
@@ -9,7 +10,6 @@ use Rattle.sorts.specs.Sort.{sort, Selected}
 use Rattle.boxes.specs.BoxLists.{box_count, wide_at, centre_of}
 use Rattle.tree.specs.Tree.{Tree, leaf, inner, hull_by, along_y_by, centre_along, index_of, items_of}
 use Rattle.nodes.specs.Layout.{nodes_of}
-use Rattle.index.specs.declared.Built.TheVariants.{Sized}
 use Rattle.index.specs.Buffer.{IndexBuffer, holding}
 use Rattle.index.specs.Answers.{build_outcome}
 

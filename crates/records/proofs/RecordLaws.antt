@@ -1,4 +1,5 @@
 -- The node records of an index buffer. Assumes nothing.
+use Rattle.std.proofs.Common.{Err}
 use mathlib.Core.Path.{◌≡◌, refl, sym, ap, ◌∙◌}
 use mathlib.Core.List.{List, [], ◌++◌, flat_map}
 use Prim.Native.Nat.{ℕ, ◌+◌, ◌≤◌, ◌<◌}
@@ -12,16 +13,13 @@ use Rattle.lists.proofs.RunLaws.{length_run, run_at}
 use Rattle.lists.specs.Lists.{run, at_front}
 use Rattle.accept.specs.declared.Refusal.{Refusal}
 use Rattle.accept.specs.declared.Refusal.TheVariants.{ShortBuffer}
-use Rattle.accept.specs.declared.Test.{Test}
-use Rattle.accept.specs.declared.Test.TheVariants.{Passed, Failed}
 use Rattle.accept.specs.Answers.{Outcome}
-use Rattle.accept.specs.Refusals.{number, given, ◌refusing◌when◌}
+use Rattle.accept.specs.Refusals.{Test, all_passed, number, given, ◌refusing◌when◌}
 use Rattle.accept.proofs.TestLaws.{refusing_passed, given_map}
 use Rattle.nodes.specs.declared.Node.{Node}
 use Rattle.boxes.specs.BoxLists.{box_count}
 use Rattle.tree.specs.Tree.{Tree, index_of, items_of}
 use Rattle.nodes.specs.Layout.{node_of, nodes_of, corners_of, links_of}
-use Rattle.index.specs.declared.BuildFields.{BuildFields}
 use Rattle.index.specs.Buffer.{IndexBuffer, holding, grown}
 use Rattle.index.specs.Answers.{boxes_tested}
 use Rattle.index.proofs.IndexCovers.{nodes_511}
@@ -73,7 +71,7 @@ recorded_count t I e = ap (λ (o : Outcome Recording (List ℕ)). o.answer.count
 
 -- ---- what passes the tests of building as records
 module _ (v : List Float) (n i : ℕ) where
-  pub nodes_passed : {t : Test} → t ≡ nodes_tested v n i → t ≡ Passed → (boxes_tested v ≡ Passed) × (511 ≤ n) × (1024 ≤ i)
+  pub nodes_passed : {t : Test} → t ≡ nodes_tested v n i → t ≡ all_passed → (boxes_tested v ≡ all_passed) × (511 ≤ n) × (1024 ≤ i)
   unfolding nodes_tested
   nodes_passed tested e =
       let items = refusing_passed (boxes_tested v refusing ShortBuffer when ltb n 511) ShortBuffer (ltb i 1024) (sym tested ∙ e) in
@@ -82,7 +80,7 @@ module _ (v : List Float) (n i : ℕ) where
 
 -- ---- all that `records` leaves
 module _ (v : List Float) (room : ℕ) (I : List ℕ) where
-  pub records_passed : {t : Test} {r : Recording} {I' : List ℕ} → t ≡ nodes_tested v room (length I) → t ≡ Passed
+  pub records_passed : {t : Test} {r : Recording} {I' : List ℕ} → t ≡ nodes_tested v room (length I) → t ≡ all_passed
       → record { answer = r; lent = I' } ≡ recording (index_of v) I
       → record { answer = r; lent = record { node_count = r.count; item_count = box_count v; items = I' } } ≡ records_outcome v room I
   unfolding records_outcome
@@ -91,7 +89,7 @@ module _ (v : List Float) (room : ℕ) (I : List ℕ) where
       let items : I' ≡ (recording (index_of v) I).lent = ap (λ (o : Outcome Recording (List ℕ)). o.lent) s in
       rw (← tested, e, recorded_count (index_of v) I s, answer, items, length_index_items v)
 
-  pub records_refused : {t : Test} {r : Refusal} → t ≡ nodes_tested v room (length I) → t ≡ Failed r
+  pub records_refused : {t : Test} {r : Refusal} → t ≡ nodes_tested v room (length I) → t ≡ Err r
       → record { answer = record { number = number r; count = 0; list = blank_nodes }; lent = record { node_count = 0; item_count = 0; items = I } }
       ≡ records_outcome v room I
   unfolding records_outcome
@@ -99,12 +97,12 @@ module _ (v : List Float) (room : ℕ) (I : List ℕ) where
 
   count_fits : (c : ℕ) (t : Test) → t ≡ nodes_tested v room (length I) → c ≡ given t (length (nodes_of (index_of v))) (λ r. 0) → (c ≤ 511) × (c ≤ room)
   unfolding given
-  count_fits c Passed tested e =
+  count_fits c all_passed tested e =
       let p = nodes_passed v room (length I) tested refl in
       let s = p.1 in
       let few = nodes_511 v p.0 in
       (omega arith, omega arith)
-  count_fits c (Failed r) tested e = (omega arith, omega arith)
+  count_fits c (Err r) tested e = (omega arith, omega arith)
 
   -- the list of records has room for all nodes
   pub records_fit : {r : Recording} {l : RecordsLent} → record { answer = r; lent = l } ≡ records_outcome v room I → (r.count ≤ 511) × (r.count ≤ room)

@@ -1,17 +1,15 @@
 -- The tree as a lent list of node records (document 01): what the call tests and leaves. Definitions only.
+use Rattle.std.specs.Prelude.{Ok, Err}
 use Rattle.std.specs.Prelude.{List, ℕ, ltb, length, replicate, Float}
 use Rattle.number.specs.Exact.{zeroᶠ}
 use Rattle.accept.specs.declared.Refusal.TheVariants.{ShortBuffer}
-use Rattle.accept.specs.declared.Test.{Test}
 use Rattle.accept.specs.Answers.{Outcome}
 use Rattle.lists.specs.Lists.{at_front}
-use Rattle.accept.specs.Refusals.{number, given, ◌refusing◌when◌}
+use Rattle.accept.specs.Refusals.{Test, number, given, ◌refusing◌when◌}
 use Rattle.nodes.specs.declared.Node.{Node}
 use Rattle.boxes.specs.BoxLists.{box_at}
 use Rattle.tree.specs.Tree.{Tree, index_of, items_of}
 use Rattle.nodes.specs.Layout.{nodes_of, first_at, count_at}
-use Rattle.index.specs.declared.BuildFields.{BuildFields}
-use Rattle.index.specs.declared.Built.TheVariants.{Refused, Sized}
 use Rattle.index.specs.Answers.{boxes_tested, build_fields_of}
 use Rattle.records.specs.declared.Recording.{Recording}
 
@@ -47,7 +45,7 @@ nodes_call v N I = given (nodes_tested v (length N) (length I))
       answer = build_fields_of (Sized (length (nodes_of (index_of v))) (length (items_of (index_of v))));
       lent = record { nodes = at_front (nodes_of (index_of v)) N; items = at_front (items_of (index_of v)) I };
     })
-    (λ r. record { answer = build_fields_of (Refused r); lent = record { nodes = N; items = I } })
+    (λ r. record { answer = build_fields_of (Err r); lent = record { nodes = N; items = I } })
 
 -- ---- before the records are written to the lent list
 -- the tree as records, and its items at the front of I

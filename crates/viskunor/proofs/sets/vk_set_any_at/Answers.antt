@@ -1,6 +1,6 @@
 -- `viskunor::sets::vk_set_any_at` meets its contract. Assumes nothing.
+use Rattle.accept.specs.Refusals.{Answer}
 use mathlib.Core.Path.{ap}
-use Rattle.accept.specs.declared.Answer.{Answer}
 use Rattle.accept.specs.Answers.{Outcome, count_fields, in_fields}
 use Rattle.index.specs.Buffer.{IndexBuffer}
 use Rattle.viskunor.proofs.sets.vk_set_any_at.Goals as goal
