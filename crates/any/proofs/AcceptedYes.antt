@@ -29,7 +29,7 @@ module _ (v : List Float) (cs : List ℕ) (p : Point) (B : IndexBuffer) (passed 
   -- TOLD: 1 where an outline that is listed for the point contains it, and 0 where none does
   pub tells_any : (any_outcome v cs p B).answer ≡ Ok (cond (any_at os p) 1 0)
   unfolding any_outcome
-  tells_any = ap (λ (o : Outcome Answer IndexBuffer). o.answer) (query_worked v cs p B (Ok (cond (any_at os p) 1 0)) Err passed)
+  tells_any = ap (λ (o : Outcome (Answer ℕ) IndexBuffer). o.answer) (query_worked v cs p B (Ok (cond (any_at os p) 1 0)) Err passed)
 
   -- YES where an outline contains the point and its box has it
   pub yes_where : Doubles v → (k : ℕ) → k < length cs → apart (set_box os k) (point_box p) ≡ false → contains_in os p k ≡ true

@@ -1,6 +1,5 @@
 -- Demand 3, of the set that the lists v and cs are and a query point p on the grid, which is q in steps. Definitions only.
-use Rattle.std.specs.Prelude.{Ok}
-use Rattle.std.specs.Prelude.{◌≡◌, false, List, ℕ, ◌<◌, length, Float}
+use Rattle.std.specs.Prelude.{◌≡◌, false, List, ℕ, ◌<◌, length, Ok, Float}
 use Rattle.number.specs.Signs.{abs_of}
 use Rattle.boundary.specs.declared.Point.{Point}
 use Rattle.index.specs.Buffer.{IndexBuffer, short_buffer}

@@ -17,7 +17,7 @@ use Rattle.distance.specs.Ellipse.{ellipse_nearest, ellipse_near}
 use Rattle.distance.specs.Piece.{piece_near}
 use Rattle.accept.specs.declared.Refusal.{Refusal}
 use Rattle.accept.specs.declared.Refusal.TheVariants.{BadPoint, BadEllipse}
-use Rattle.accept.specs.Refusals.{Test, all_passed, ◌refusing◌when◌, given}
+use Rattle.accept.specs.Refusals.{Test, all_passed, ◌refusing◌when◌, given, Answer}
 use Rattle.accept.proofs.TestLaws.{refusing_passed}
 use Rattle.boundary.specs.Boxes.{is_in_field, point_in_field}
 use Rattle.ellipse.specs.Ellipse.{axis_fits, offset_fits, ellipse_fits, ellipse_tested, ellipse_answer}
@@ -42,10 +42,10 @@ offset_of {c} {p} C P t =
     let m : Ranged zeroᶠ (power 21) (abs_of (sub binary64 p c)) = abs_range d tt in
     record { fits = sub-fits binary64 p c; most = m.high; least = t }
 
-refused_not_away : {n : Refusal} {r : Distance} {X : Type 0} → Err n ≡ Ok r → X
+refused_not_away : {n : Refusal} {r : Distance} {X : Type 0} → ◌≡◌ {A = Answer Distance} (Err n) (Ok r) → X
 refused_not_away e = let z : ◌≡◌ {A = ℕ} 0 1 = cc in absurd (omega arith)
 
-away_same : {r s : Distance} → Ok r ≡ Ok s → r ≡ s
+away_same : {r s : Distance} → ◌≡◌ {A = Answer Distance} (Ok r) (Ok s) → r ≡ s
 away_same e = cc
 
 -- ---- one coordinate: moved back, and less than the point's
@@ -108,5 +108,5 @@ quadrant_answer {c} {a} {b} {p} {r} C A B P e = go (ellipse_tested c a b p) refl
         (offset_of Cy Py (and_r (offset_fits c.x p.x) (offset_fits c.y p.y) offs)))
 
     go : (t : Test) → ellipse_tested c a b p ≡ t → given t (Ok (near_of c a b p)) Err ≡ Ok r → QuadrantAnswer c a b p r
-    go all_passed t e = let f = ellipse_passed c a b p t in subst (QuadrantAnswer c a b p) (away_same e) (away f.0 f.1 f.2)
+    go (Ok _) t e = let f = ellipse_passed c a b p t in subst (QuadrantAnswer c a b p) (away_same e) (away f.0 f.1 f.2)
     go (Err n) t e = refused_not_away e

@@ -1,11 +1,11 @@
 -- The nearest point of an ellipse: tests 10 and 12 (document 01), and what the call answers. Definitions only.
-use Rattle.std.specs.Prelude.{Ok, Err}
-use Rattle.std.specs.Prelude.{Bool, false, not, ◌&&◌, ◌||◌, pos, negsuc, Float}
+use Rattle.std.specs.Prelude.{Bool, false, not, ◌&&◌, ◌||◌, pos, negsuc, Ok, Err, Float}
 use Rattle.std.specs.Float.{fin, binary64}
 use Rattle.std.specs.Float.Ieee.{sub, le, eq}
 use Rattle.number.specs.Exact.{zeroᶠ}
 use Rattle.number.specs.Signs.{abs_of}
 use Rattle.boundary.specs.declared.Point.{Point}
+use Rattle.boundary.specs.declared.Distance.{Distance}
 use Rattle.boundary.specs.Boxes.{point_in_field}
 use Rattle.distance.specs.declared.Piece.TheVariants.{Ellipse}
 use Rattle.distance.specs.Piece.{piece_near}
@@ -44,7 +44,7 @@ ellipse_tested c a b p =
     refusing BadEllipse when not (ellipse_fits c a b p)
 
 -- its distance, and its nearest point
-unfoldable pub ellipse_answer : Point → Float → Float → Point → Answer
+unfoldable pub ellipse_answer : Point → Float → Float → Point → Answer Distance
 ellipse_answer c a b p =
     let k = piece_near (Ellipse c a b) p in
     given (ellipse_tested c a b p) (Ok (record { d = k.d; v = k.q })) Err

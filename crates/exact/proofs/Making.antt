@@ -168,11 +168,11 @@ made_accepted {v} out {n} g e = go (make_tested v (length out)) refl e
     passed : make_tested v (length out) ≡ all_passed → shape_tested w ≡ all_passed
     passed t = (refusing_passed (shape_tested w) ShortBuffer (ltb (length out) (length v)) (unfold make_tested in t)).0
 
-    left : Test → Outcome Answer (List Float)
+    left : Test → Outcome (Answer ℕ) (List Float)
     left t = given t (record { answer = Ok (count w); lent = at_front (made_of v) out }) (refused_with out)
 
     go : (t : Test) → make_tested v (length out) ≡ t → (left t).answer ≡ Ok n → MadeOn v (take (2 * n) (left t).lent)
     go (Err r) t e = absurd (let z : ◌≡◌ {A = ℕ} 0 1 = cc in omega arith)
-    go all_passed t e =
+    go (Ok _) t e =
         let k : count w ≡ n = cc in
         rw (take_at (made_of v) (drop (length (made_of v)) out) (2 * n) (made_length v ∙ ap (λ (m : ℕ). 2 * m) k)) (made_on g (passed t))

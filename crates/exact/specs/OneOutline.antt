@@ -1,7 +1,6 @@
 -- Demand 3 of one outline and one point, on the grid: area, location and containment are exactly those of whole-number geometry, and the distance is within
 -- 2 ^ -24 of a step of the exact one. What making leaves there. Definitions only.
-use Rattle.std.specs.Prelude.{Ok}
-use Rattle.std.specs.Prelude.{◌≡◌, cond, List, ℤ, Float}
+use Rattle.std.specs.Prelude.{◌≡◌, cond, List, ℤ, Ok, Float}
 use Rattle.algebra.specs.Order.{absℤ}
 use Rattle.number.specs.Exact.{Is}
 use Rattle.boundary.specs.declared.Point.{Point}

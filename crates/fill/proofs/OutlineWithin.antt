@@ -90,4 +90,4 @@ pub within_fill : (v : List Float) (c : Bounds) (w : List Float) → Doubles v �
 unfolding fill_outcome
 within_fill v c w held box passed within =
     let done = given_passed passed (filled_outcome v c w) (refused_with w) in
-    ap (λ (o : Outcome Answer (List Float)). o.answer) done ∙ within_filled v c (length w) held box passed within
+    ap (λ (o : Outcome (Answer Float) (List Float)). o.answer) done ∙ within_filled v c (length w) held box passed within

@@ -13,7 +13,7 @@ use lib.Ieee.{Float}
 use Rattle.lists.specs.Lists.{at_front}
 use Rattle.boundary.specs.Outline.{count}
 use Rattle.accept.specs.declared.Refusal.TheVariants.{ShortBuffer}
-use Rattle.accept.specs.Answers.{Outcome, in_fields}
+use Rattle.accept.specs.Answers.{Outcome, in_fields, Fields}
 use Rattle.accept.proofs.TestLaws.{number_above}
 use Rattle.grid.specs.Grid.{OutlineOn}
 use Rattle.set.specs.Tests.{set_tested}
@@ -44,10 +44,10 @@ front_taken : {A : Type 0} (xs out : List A) (n : ℕ) → length xs ≡ n → t
 unfolding at_front
 front_taken xs out n e = take_at xs (drop (length xs) out) n e
 
-abbrev front_vertices : Outcome ReadFields SetLent → List Float
+abbrev front_vertices : Outcome (Fields Size) SetLent → List Float
 front_vertices o = take (2 * o.answer.size.vertices) o.lent.vertices
 
-abbrev front_counts : Outcome ReadFields SetLent → List ℕ
+abbrev front_counts : Outcome (Fields Size) SetLent → List ℕ
 front_counts o = take o.answer.size.outlines o.lent.counts
 
 set_left : (s : List ℕ) (L : SetLent) {zss : List (List ℤ)} → AcceptedStream zss s → short_set zss L ≡ false → ReadSet s L zss
@@ -57,7 +57,7 @@ set_left s L {zss} a h =
     let c : counts_left s L ≡ counts_of zss = ap front_counts e ∙ front_taken (counts_of zss) L.counts (length zss) (length_counts zss) in
     record {
       accepted = a;
-      outlines = ap (λ (o : Outcome ReadFields SetLent). o.answer.size.outlines) e;
+      outlines = ap (λ (o : Outcome (Fields Size) SetLent). o.answer.size.outlines) e;
       vertices = v;
       counts = c;
       passed = ap₂ set_tested v c ∙ read_passes a;
@@ -65,11 +65,11 @@ set_left s L {zss} a h =
     }
 
 -- ---- every call
-abbrev answered : Reading → SetLent → Outcome ReadFields SetLent
+abbrev answered : Reading → SetLent → Outcome (Fields Size) SetLent
 answered r L = in_fields read_fields (read_with r L)
 
 -- where a list is short, or none is
-abbrev answered_if : Bool → List (List ℤ) → SetLent → Outcome ReadFields SetLent
+abbrev answered_if : Bool → List (List ℤ) → SetLent → Outcome (Fields Size) SetLent
 answered_if short zss L = in_fields read_fields (cond short (record { answer = Err ShortBuffer; lent = L }) (record { answer = Ok (set_size zss); lent = written zss L }))
 
 -- it answers 0 only where the stream is accepted and no list is short
@@ -94,7 +94,7 @@ pub refused_untouched : (s : List ℕ) (L : SetLent) → ((read_call s L).answer
 unfolding read_with
 refused_untouched s L = go (reading s)
   where
-    untouched : Outcome ReadFields SetLent → Type 0
+    untouched : Outcome (Fields Size) SetLent → Type 0
     untouched o = (o.lent ≡ L) × (o.answer.size ≡ record { outlines = 0; vertices = 0 })
 
     short : (zss : List (List ℤ)) (b : Bool) → ((answered_if b zss L).answer.number ≡ 0 → ⊥) → untouched (answered_if b zss L)

@@ -1,6 +1,5 @@
 -- What every stream is answered, record after record in stream order: the outlines that it holds, or a refusal (document 02, U3). Definitions only.
-use Rattle.std.specs.Prelude.{Err}
-use Rattle.std.specs.Prelude.{◌&&◌, cond, ℕ, zero, suc, eqb, ℤ, length, Float}
+use Rattle.std.specs.Prelude.{◌&&◌, cond, ℕ, zero, suc, eqb, ℤ, length, Err, Float}
 use mathlib.Core.List.{List, [], ◌∷◌, ◌++◌, map, flat_map}
 use Rattle.accept.specs.declared.Refusal.{Refusal}
 use Rattle.accept.specs.declared.Refusal.TheVariants.{TooMany, BadRecord, OtherUnit}

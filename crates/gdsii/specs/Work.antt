@@ -1,6 +1,5 @@
 -- What the two passes over a stream keep to. Definitions only.
-use Rattle.std.specs.Prelude.{Ok, Err}
-use Rattle.std.specs.Prelude.{◌≡◌, cond, ◌||◌, List, [], ℕ, ◌+◌, ◌*◌, ◌≤◌, ◌<◌, eqb, ltb, ℤ, length, drop, get_or, set}
+use Rattle.std.specs.Prelude.{◌≡◌, cond, ◌||◌, List, [], ℕ, ◌+◌, ◌*◌, ◌≤◌, ◌<◌, eqb, ltb, ℤ, length, drop, get_or, set, Ok, Err}
 use Rattle.std.proofs.lemmas.List.Edits.{sets}
 use Rattle.accept.specs.declared.Refusal.TheVariants.{TooMany}
 use Rattle.accept.specs.Refusals.{Answer, all_passed, given, negative_area}

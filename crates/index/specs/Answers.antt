@@ -1,10 +1,9 @@
 -- The tests of a box list, in document 01's order, and all that building leaves. Definitions only.
-use Rattle.std.specs.Prelude.{Ok, Err}
-use Rattle.std.specs.Prelude.{◌≡◌, not, List, ℕ, ◌%◌, ◌*◌, ◌≤◌, eqb, ltb, length, Float}
+use Rattle.std.specs.Prelude.{◌≡◌, not, List, ℕ, ◌%◌, ◌*◌, ◌≤◌, eqb, ltb, length, Ok, Err, Float}
 use Rattle.boundary.specs.Boxes.{box_fits}
 use Rattle.lists.specs.Lists.{any}
 use Rattle.accept.specs.declared.Refusal.TheVariants.{TooMany, BadBox, ShortBuffer}
-use Rattle.accept.specs.Answers.{Outcome}
+use Rattle.accept.specs.Answers.{Outcome, Fields}
 use Rattle.accept.specs.Refusals.{Answer, Test, all_passed, number, given, ◌refusing◌when◌}
 use Rattle.index.specs.Buffer.{IndexBuffer, short_buffer, holding, corner_places, link_places, item_places}
 use Rattle.boxes.specs.BoxLists.{boxes_of}
@@ -50,11 +49,11 @@ build_outcome v B = given (build_tested v B)
     (λ r. record { answer = Err r; lent = B })
 
 -- what the call returns and puts into its answer fields: a refusal gives its number, and zeros
-abbrev pub build_fields_of : Built → BuildFields
+abbrev pub build_fields_of : Built → (Fields TreeSize)
 build_fields_of (Err r) = record { number = number r; nodes = 0; items = 0 }
 build_fields_of (Sized n k) = record { number = 0; nodes = n; items = k }
 
 -- the same outcome, with the answer in its fields
-unfoldable pub build_call : List Float → IndexBuffer → Outcome BuildFields IndexBuffer
+unfoldable pub build_call : List Float → IndexBuffer → Outcome (Fields TreeSize) IndexBuffer
 unfolding build_outcome
 build_call v B = record { answer = build_fields_of (build_outcome v B).answer; lent = (build_outcome v B).lent }

@@ -1,6 +1,5 @@
 -- The trees that the Rust's `build` gives, in the Rust's own words (document 01, index.rs). Definitions only.
-use Rattle.std.specs.Prelude.{Ok}
-use Rattle.std.specs.Prelude.{◌≡◌, List, ℕ, ◌/◌, ◌≤◌, ◌<◌, leb, length, take, drop, Float}
+use Rattle.std.specs.Prelude.{◌≡◌, List, ℕ, ◌/◌, ◌≤◌, ◌<◌, leb, length, take, drop, Ok, Float}
 use Rattle.boundary.specs.declared.Point.{Point}
 use Rattle.boundary.specs.declared.Bounds.{Bounds}
 use Rattle.boundary.specs.Boxes.{SameBox, hull_ieee}

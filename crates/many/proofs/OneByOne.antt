@@ -1,5 +1,5 @@
 -- WHAT A CALL FOR MANY POINTS ANSWERS: what single calls do, made one by one, in the points' order; and where it is refused. Assumes nothing.
-use Rattle.std.proofs.Common.{Err}
+use Rattle.std.proofs.Common.{Err, Ok}
 use mathlib.Core.Path.{◌≡◌, refl, sym, ap, ap₂, ◌∙◌}
 use mathlib.Core.Bool.{false}
 use mathlib.Core.List.{List, map}
@@ -16,7 +16,7 @@ use Rattle.lists.specs.Lists.{run, at_front}
 use Rattle.lists.proofs.FrontLaws.{front_at, front_past}
 use Rattle.lists.proofs.RunLaws.{length_run, run_at, map_run}
 use Rattle.accept.specs.declared.Refusal.{Refusal}
-use Rattle.accept.specs.Answers.{Outcome, count_fields, in_fields, refused_with}
+use Rattle.accept.specs.Answers.{Outcome, count_fields, in_fields, refused_with, Fields}
 use Rattle.accept.specs.Refusals.{Answer, Test, all_passed, ◌refusing◌when◌, number}
 use Rattle.accept.proofs.TestLaws.{number_above, given_passed, given_failed}
 use Rattle.index.specs.Buffer.{IndexBuffer, short_buffer, cleared}
@@ -53,10 +53,10 @@ module _ (v : List Float) (cs : List ℕ) (ps : List Float) (L : ManyLent) where
   accepted_only_where e = go (many_tested v cs ps L) refl
     where
       go : (t : Test) → many_tested v cs ps L ≡ t → ManyPassed v cs ps L
-      go all_passed p = many_passed v cs ps L p
+      go (Ok _) p = many_passed v cs ps L p
       go (Err r) p =
           let left = ap (in_fields count_fields) (given_failed p (many_worked v cs ps L) (refused_with L)) in
-          let z = sym (ap (λ (o : Outcome CountFields ManyLent). o.answer.number) left) ∙ e in
+          let z = sym (ap (λ (o : Outcome (Fields ℕ) ManyLent). o.answer.number) left) ∙ e in
           let n = number_above r in
           absurd (omega arith)
 
@@ -75,7 +75,7 @@ module _ (v : List Float) (cs : List ℕ) (ps : List Float) (L : ManyLent) where
     -- CLEARED: the working buffer, over every set
     pub buffer_cleared : (many_call v cs ps L).lent.buffer ≡ cleared L.buffer
     unfolding many_worked
-    buffer_cleared = ap (λ (o : Outcome CountFields ManyLent). o.lent.buffer) call_is
+    buffer_cleared = ap (λ (o : Outcome (Fields ℕ) ManyLent). o.lent.buffer) call_is
 
     -- NONE over an empty set: neither list is written
     pub none_over_empty : length cs ≡ 0

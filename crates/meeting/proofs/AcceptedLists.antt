@@ -51,12 +51,12 @@ module _ (v : List Float) (c : Bounds) (B : IndexBuffer) (S : List ℕ) (passed 
   -- COUNTED: how many items there are
   pub counts_meeting : (meeting_outcome v c B S).answer ≡ Ok (length (meeting_of c (index_of v)))
   unfolding listing
-  counts_meeting = ap (λ (o : Outcome Answer MeetingLent). o.answer) outcome_is
+  counts_meeting = ap (λ (o : Outcome (Answer ℕ) MeetingLent). o.answer) outcome_is
 
   -- AT EXIT the list begins with them, and its places past them are as they were
   pub fronts_meeting : (meeting_outcome v c B S).lent.list ≡ at_front (meeting_of c (index_of v)) S
   unfolding listing
-  fronts_meeting = ap (λ (o : Outcome Answer MeetingLent). o.lent.list) outcome_is
+  fronts_meeting = ap (λ (o : Outcome (Answer ℕ) MeetingLent). o.lent.list) outcome_is
 
   -- LISTED: they are the numbers that the call lists
   pub lists_meeting : listed_by v c B S ≡ meeting_of c (index_of v)

@@ -1,6 +1,5 @@
 -- The *nearest answer* (document 01): the outline of a set with the least magnitude of its distance, the lowest number among equals. Definitions only.
-use Rattle.std.specs.Prelude.{Ok, Err}
-use Rattle.std.specs.Prelude.{◌≡◌, false, cond, List, ℕ, ◌<◌, eqb, length}
+use Rattle.std.specs.Prelude.{◌≡◌, false, cond, List, ℕ, ◌<◌, eqb, length, Ok, Err}
 use Rattle.std.specs.Float.Ieee.{lt, eq}
 use Rattle.number.specs.Exact.{zeroᶠ}
 use Rattle.boundary.specs.declared.Point.{Point}

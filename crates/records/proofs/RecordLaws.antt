@@ -1,5 +1,5 @@
 -- The node records of an index buffer. Assumes nothing.
-use Rattle.std.proofs.Common.{Err}
+use Rattle.std.proofs.Common.{Err, Ok}
 use mathlib.Core.Path.{◌≡◌, refl, sym, ap, ◌∙◌}
 use mathlib.Core.List.{List, [], ◌++◌, flat_map}
 use Prim.Native.Nat.{ℕ, ◌+◌, ◌≤◌, ◌<◌}
@@ -13,7 +13,7 @@ use Rattle.lists.proofs.RunLaws.{length_run, run_at}
 use Rattle.lists.specs.Lists.{run, at_front}
 use Rattle.accept.specs.declared.Refusal.{Refusal}
 use Rattle.accept.specs.declared.Refusal.TheVariants.{ShortBuffer}
-use Rattle.accept.specs.Answers.{Outcome}
+use Rattle.accept.specs.Answers.{Outcome, Fields}
 use Rattle.accept.specs.Refusals.{Test, all_passed, number, given, ◌refusing◌when◌}
 use Rattle.accept.proofs.TestLaws.{refusing_passed, given_map}
 use Rattle.nodes.specs.declared.Node.{Node}
@@ -97,7 +97,7 @@ module _ (v : List Float) (room : ℕ) (I : List ℕ) where
 
   count_fits : (c : ℕ) (t : Test) → t ≡ nodes_tested v room (length I) → c ≡ given t (length (nodes_of (index_of v))) (λ r. 0) → (c ≤ 511) × (c ≤ room)
   unfolding given
-  count_fits c all_passed tested e =
+  count_fits c (Ok _) tested e =
       let p = nodes_passed v room (length I) tested refl in
       let s = p.1 in
       let few = nodes_511 v p.0 in
@@ -113,7 +113,7 @@ module _ (v : List Float) (room : ℕ) (I : List ℕ) where
 
 -- ---- and what the call leaves once the records are written to the lent list
 module _ (v : List Float) (N : List Node) (I : List ℕ) where
-  abbrev written : Outcome Recording RecordsLent → Outcome BuildFields NodesLent
+  abbrev written : Outcome Recording RecordsLent → Outcome (Fields TreeSize) NodesLent
   written o = record {
     answer = record { number = o.answer.number; nodes = o.lent.node_count; items = o.lent.item_count };
     lent = record { nodes = take o.answer.count o.answer.list ++ drop o.answer.count N; items = o.lent.items };

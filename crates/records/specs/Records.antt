@@ -1,9 +1,8 @@
 -- The tree as a lent list of node records (document 01): what the call tests and leaves. Definitions only.
-use Rattle.std.specs.Prelude.{Ok, Err}
-use Rattle.std.specs.Prelude.{List, ℕ, ltb, length, replicate, Float}
+use Rattle.std.specs.Prelude.{List, ℕ, ltb, length, replicate, Ok, Err, Float}
 use Rattle.number.specs.Exact.{zeroᶠ}
 use Rattle.accept.specs.declared.Refusal.TheVariants.{ShortBuffer}
-use Rattle.accept.specs.Answers.{Outcome}
+use Rattle.accept.specs.Answers.{Outcome, Fields}
 use Rattle.lists.specs.Lists.{at_front}
 use Rattle.accept.specs.Refusals.{Test, number, given, ◌refusing◌when◌}
 use Rattle.nodes.specs.declared.Node.{Node}
@@ -38,7 +37,7 @@ pub record NodesLent : Type 0 where
   pub items : List ℕ
 
 -- what it returns and puts into its answer fields, as building does, and what it leaves in the lists: all nodes, and the items
-unfoldable pub nodes_call : List Float → List Node → List ℕ → Outcome BuildFields NodesLent
+unfoldable pub nodes_call : List Float → List Node → List ℕ → Outcome (Fields TreeSize) NodesLent
 unfolding nodes_tested given
 nodes_call v N I = given (nodes_tested v (length N) (length I))
     (record {

@@ -1,6 +1,5 @@
 -- Tests 5 to 9 of all outlines in one pass: each outline's first test that it does not pass, and the least of these. Definitions only.
-use Rattle.std.specs.Prelude.{Err}
-use Rattle.std.specs.Prelude.{cond, List, ℕ, min, eqb}
+use Rattle.std.specs.Prelude.{cond, List, ℕ, min, eqb, Err, Ok}
 use Rattle.std.specs.Float.Ieee.{neg, lt, le, eq}
 use Rattle.lists.specs.Lists.{fold, any}
 use Rattle.boundary.specs.Outline.{edges}

@@ -1,6 +1,5 @@
 -- An outline as an XY record holds it: coordinates in steps, which making takes as doubles in µm. Definitions only.
-use Rattle.std.specs.Prelude.{Err}
-use Rattle.std.specs.Prelude.{◌≡◌, false, List, map, ℕ, ◌+◌, ◌*◌, ◌≤◌, ℤ, pos, length, take, drop, Float}
+use Rattle.std.specs.Prelude.{◌≡◌, false, List, map, ℕ, ◌+◌, ◌*◌, ◌≤◌, ℤ, pos, length, take, drop, Err, Float}
 use Rattle.std.specs.Float.{fin, binary64}
 use Rattle.std.specs.Float.Ieee.{div, of_int}
 use Rattle.boundary.specs.declared.Point.{Point}

@@ -7,4 +7,4 @@ use Rattle.viskunor.proofs.sets.vk_set_any_at.Goals as goal
 
 pub returns : goal.returns
 returns c =
-    rw c.count_fields-told.ensures (ap (λ (o : Outcome Answer IndexBuffer). in_fields count_fields o) c.any_at-answer.ensures)
+    rw c.count_fields-told.ensures (ap (λ (o : Outcome (Answer ℕ) IndexBuffer). in_fields count_fields o) c.any_at-answer.ensures)
