@@ -18,13 +18,14 @@ use Rattle.sorts.proofs.PartLaws.{sort_sorted, run_ascends}
 use Rattle.accept.specs.declared.Refusal.TheVariants.{TooMany, BadBox, ShortBuffer}
 use Rattle.accept.specs.declared.Refusal.{Refusal}
 use Rattle.number.specs.Exact.{zeroᶠ}
-use Rattle.accept.specs.Answers.{Outcome}
+use Rattle.accept.specs.Answers.{in_fields, Outcome, Fields}
 use Rattle.accept.specs.Refusals.{Answer, Test, all_passed, ◌refusing◌when◌}
 use Rattle.accept.proofs.TestLaws.{refusing_passed}
 use Rattle.boxes.specs.BoxLists.{box_count, box_numbers, boxes_of, wide_at, centre_of}
 use Rattle.tree.specs.Tree.{Tree, leaf, hull_of, tree_in, index_of, items_of}
 use Rattle.nodes.specs.Layout.{extra, node_of, nodes_below, nodes_of, corners_of, links_of, Grown}
 use Rattle.boundary.specs.Boxes.{box_fits}
+use Rattle.index.specs.declared.TreeSize.{TreeSize}
 use Rattle.index.specs.Buffer.{IndexBuffer, buffer, short_sizes, short_buffer, holding, grown, cleared}
 use Rattle.index.specs.Answers.{boxes_tested, build_tested, build_outcome, build_fields_of, build_call, Accepted}
 use Rattle.lists.proofs.StoreLaws.{sets_front, flat_length}
@@ -177,7 +178,7 @@ accepted_sizes v B tested e =
 -- ---- all that building leaves
 pub built : (v : List Float) (B : IndexBuffer) {t : Test} {k : ℕ} {D : IndexBuffer} → t ≡ build_tested v B → t ≡ all_passed
     → record { answer = k; lent = D } ≡ grown (index_of v) B
-    → record { answer = Sized k (box_count v); lent = D } ≡ build_outcome v B
+    → record { answer = Ok (record { nodes = k; items = box_count v }); lent = D } ≡ build_outcome v B
 unfolding build_outcome
 built v B tested e g = rw (← tested, e, grown_nodes (index_of v) B g, grown_lent (index_of v) B g, length_index_items v)
 
@@ -187,10 +188,10 @@ unfolding build_outcome
 build_refused v B tested e = rw (← tested, e)
 
 -- with its answer in the fields
-pub build_call_lem : (v : List Float) (B : IndexBuffer) {b : Built} {f : BuildFields} {D : IndexBuffer}
+pub build_call_lem : (v : List Float) (B : IndexBuffer) {b : Answer TreeSize} {f : Fields TreeSize} {D : IndexBuffer}
     → record { answer = b; lent = D } ≡ build_outcome v B → f ≡ build_fields_of b → record { answer = f; lent = D } ≡ build_call v B
 unfolding build_call
-build_call_lem v B e told = rw told (ap (λ (o : Outcome Built IndexBuffer). record { answer = build_fields_of o.answer; lent = o.lent }) e)
+build_call_lem v B e told = rw told (ap (λ (o : Outcome (Answer TreeSize) IndexBuffer). in_fields build_fields_of o) e)
 
 -- what was built is gone once the buffer is cleared
 pub holding_cleared : (v : List Float) (B : IndexBuffer) → Accepted v (length B.corners) (length B.links) (length B.items)

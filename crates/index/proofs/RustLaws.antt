@@ -35,10 +35,10 @@ use Rattle.lists.proofs.MemberLaws.{times_append, numbers_below}
 use Rattle.sorts.proofs.SortLaws.{length_sort}
 use Rattle.sorts.proofs.SelectLaws.{selected_first, selected_rest, sort_selected}
 use Rattle.boxes.specs.BoxLists.{box_count, box_at, wide_at, centre_of}
-use Rattle.tree.specs.Tree.{Tree, leaf, inner, hull_by, along_y_by, along_y, centre_along, ordered, tree_of, index_of, items_of}
-use Rattle.nodes.specs.Layout.{nodes_of}
+use Rattle.tree.specs.Tree.{Tree, leaf, inner, hull_by, along_y_by, along_y, centre_along, ordered, tree_of, index_of}
 use Rattle.index.specs.Buffer.{IndexBuffer, short_buffer, holding}
-use Rattle.index.specs.Answers.{boxes_tested, build_tested, build_outcome}
+use Rattle.index.specs.Answers.{size_of, boxes_tested, build_tested, build_outcome}
+use Rattle.index.specs.declared.TreeSize.{TreeSize}
 use Rattle.index.specs.Rust.{Builds, few, many, BuiltTree, BuildsIndex, BuiltAsRust, ascended, SameTree, same_leaf, same_inner}
 use Rattle.tree.proofs.TreeLaws.{left, right, tree_leaf, tree_split, tree_sorted}
 use Rattle.tree.proofs.AnyOrder.{hull_same, axis_same}
@@ -142,12 +142,12 @@ module _ (v : List Float) (passed : boxes_tested v ≡ all_passed) (doubles : Do
 pub built_as_rust : (v : List Float) (B : IndexBuffer) → build_tested v B ≡ all_passed → Doubles v → BuiltAsRust v B
 unfolding build_outcome build_tested
 built_as_rust v B passed doubles =
-    let o : Outcome Built IndexBuffer = record { answer = Sized (length (nodes_of (index_of v))) (length (items_of (index_of v))); lent = holding (index_of v) B } in
+    let o : Outcome (Answer TreeSize) IndexBuffer = record { answer = Ok (size_of (index_of v)); lent = holding (index_of v) B } in
     let left = given_passed passed o (λ r. record { answer = Err r; lent = B }) in
     let some = builds_some (wide_at v) (λ i. centre_of (wide_at v i)) (run (λ i. i) 0 (box_count v)) in
     record {
-      answer = ap (λ (o : Outcome Built IndexBuffer). o.answer) left;
-      lent = ap (λ (o : Outcome Built IndexBuffer). o.lent) left;
+      answer = ap (λ (o : Outcome (Answer TreeSize) IndexBuffer). o.answer) left;
+      lent = ap (λ (o : Outcome (Answer TreeSize) IndexBuffer). o.lent) left;
       same = builds_index v (refusing_passed (boxes_tested v) ShortBuffer (short_buffer B) passed).0 doubles;
       some = (some.tree, some.builds);
     }
