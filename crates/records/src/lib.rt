@@ -70,9 +70,9 @@ pub fn records(boxes: &[f64], nodes: &mut [Node], items: &mut [u32]) -> Result<T
         ≡ records_outcome boxes.now nodes.old items.old }
 {
     nodes_tested(boxes, nodes.len(), items.len())?;
-    let count = record(boxes, nodes, items);
+    let count = record(boxes, nodes, items) as u32;
     Ok(TreeSize {
-        nodes: count as u32,
+        nodes: count,
         items: (boxes.len() / 4) as u32,
     })
 }
