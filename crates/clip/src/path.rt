@@ -112,12 +112,10 @@ fn run(
 {
     let mut now = s;
     let mut i = start;
-    let mut k = 0;
-    while k < n {
+    for _ in 0..n {
         let e = scan::line_at(w, from + 4 * i);
         now = step(w, side, e, to, room, now);
         i = boundary::next(i, n);
-        k += 1;
     }
     now
 }

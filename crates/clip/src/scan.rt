@@ -55,14 +55,12 @@ pub fn first_pass(w: &[f64], from: usize, n: usize, s: HalfPlane) -> FirstPass
     let last = marks_at(w, from + 4 * (n - 1), s);
     let kept = last.endKept;
     let mut before = kept;
-    let mut i = 0;
-    while i < n {
+    for i in 0..n {
         let m = marks_at(w, from + 4 * i, s);
         if comes_in(before, m) {
             return FirstPass { kept, start: i };
         }
         before = m.endKept;
-        i += 1;
     }
     FirstPass { kept, start: n }
 }

@@ -109,10 +109,8 @@ fn sum(w: &[f64], from: usize, n: usize) -> f64
     ensures { result ≡ total xdy_of (lines_from w.now from 0 n) }
 {
     let mut sum = 0.0;
-    let mut i = 0;
-    while i < n {
-        sum = sum + x_dy(clip::scan::line_at(w, from + 4 * i));
-        i += 1;
+    for i in 0..n {
+        sum += x_dy(clip::scan::line_at(w, from + 4 * i));
     }
     sum
 }
@@ -126,12 +124,10 @@ fn sum_own(v: &[f64]) -> f64
     let first = boundary::vertex_at(v, 0);
     let mut area = 0.0;
     let mut a = first;
-    let mut i = 0;
-    while i + 1 < n {
-        let b = boundary::vertex_at(v, i + 1);
-        area = area + x_dy(Edge { a, b });
+    for i in 1..n {
+        let b = boundary::vertex_at(v, i);
+        area += x_dy(Edge { a, b });
         a = b;
-        i += 1;
     }
     area + x_dy(Edge { a, b: first })
 }

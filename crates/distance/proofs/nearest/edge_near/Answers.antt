@@ -24,12 +24,6 @@ nearer_edge-best-requires c =
     let b = c.loop-i.invariant in
     (rw c.edge_at-in-loop-i.ensures (edge_in_field_lem s.args.v.now s.requires.0 c.loop-i.i c.loop-i-test.true), s.requires.1, b.short, found_far _ _ _ b.found)
 
-pub overflow_add-i : goal.overflow_add-i
-overflow_add-i c =
-    let l = c.loop-i-test.true in
-    let n : count c.args.v.now < 2 ^ 64 = search rules in
-    record { fits = omega arith }
-
 pub loop-i-preserved : goal.loop-i-preserved
 loop-i-preserved c =
     let n = rw c.edge_at-in-loop-i.ensures at c.nearer_edge-best.ensures in
