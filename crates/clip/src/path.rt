@@ -88,11 +88,13 @@ fn step(w: &mut [f64], side: HalfPlane, e: Edge, to: usize, room: usize, s: Stat
         × ((t : Path) → Tracks to room w.old s t → Tracks to room w.new result (step_of side t e)) }
 {
     let m = parts::marked(side, e);
-    if !m.cut {
-        return follow(w, to, room, s, e, m.startKept);
+    match m.cut {
+        None => follow(w, to, room, s, e, m.start_kept),
+        Some(u) => {
+            let a = follow(w, to, room, s, parts::first(e, u), m.start_kept);
+            follow(w, to, room, a, parts::second(e, u), m.end_kept)
+        }
     }
-    let a = follow(w, to, room, s, parts::first(m, e), m.startKept);
-    follow(w, to, room, a, parts::second(m, e), m.endKept)
 }
 
 // Writes the parts of the n lines that stand from `from` on, from line `start` on and going round.
