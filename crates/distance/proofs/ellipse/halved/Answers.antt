@@ -1,6 +1,5 @@
 -- `distance::ellipse::halved` meets its contract: the halvings that are left give the final answer. Assumes nothing.
 use mathlib.Core.Path.{refl, sym, ◌∙◌}
-use borrow.Author.Rules.{rules}
 use lib.Ieee.{of_bits}
 use Rattle.distance.specs.Ellipse.{halved_of}
 use Rattle.distance.proofs.HalveLaws.{halve_end, halve_met, halve_above, halve_below, halve_root}
