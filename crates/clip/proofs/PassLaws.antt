@@ -17,7 +17,7 @@ use Rattle.boundary.specs.Outline.{same_point}
 use Rattle.clip.specs.declared.HalfPlane.{HalfPlane}
 use Rattle.clip.specs.declared.Marks.{Marks}
 use Rattle.clip.specs.Clip.{point_along, coord_of, in_half_plane, crossing, crosses, Part, part_of, parts_of, parts, lead, last_kept, rotated, kept_lines, joint, onward, joined, clip_of}
-use Rattle.clip.specs.Passes.{mark_at, uncut_of, marks_between, marks_of, first_part, last_part, comes_in, start_line, Path, if_on, line_between, followed, step_of, nothing, closed_path, traced}
+use Rattle.clip.specs.Passes.{mark_at, uncut_of, marks_between, marks_of, first_part, last_part, comes_in, start_line, Path, followed, step_of, nothing, closed_path, traced}
 use Rattle.lists.proofs.FoldLaws.{any_from, any_append, fold_append}
 
 -- ---- the parts of one line
@@ -247,19 +247,10 @@ module _ (s : HalfPlane) where
       ∙ sym (ap (fold write t) (ap kept_lines (parts_cons s e es) ∙ kept_append ps (parts s es)))
 
 -- closed, it is the joined lines
-if_joint : (p q : Point) → if_on (not (same_point p q)) (line_between p q) ≡ joint p q
-unfolding joint
-if_joint p q = by (same_point p q)
-  where
-    by : (b : Bool) → cond (not b) (line_between p q ∷ []) [] ≡ cond b [] (line_between p q ∷ [])
-    by true = refl
-    by false = refl
-
-closed_onward : (start last : Point) (out es : List Edge) → closed_path (fold write (record { ends = record { begun = 1; start = start; last = last }; out = out }) es) ≡ out ++ onward start last es
+closed_onward : (start last : Point) (out es : List Edge) → closed_path (fold write (record { ends = Some (record { start = start; last = last }); out = out }) es) ≡ out ++ onward start last es
 unfolding closed_path fold write followed onward
-closed_onward start last out [] = rw (if_joint last start)
-closed_onward start last out (e ∷ es) =
-    closed_onward start e.b ((out ++ if_on (not (same_point last e.a)) (line_between last e.a)) ++ (e ∷ [])) es ∙ rw (if_joint last e.a) (simp append_assoc)
+closed_onward start last out [] = refl
+closed_onward start last out (e ∷ es) = closed_onward start e.b ((out ++ joint last e.a) ++ (e ∷ [])) es ∙ simp append_assoc
 
 closed_joined : (es : List Edge) → closed_path (fold write nothing es) ≡ joined es
 unfolding closed_path fold write followed joined

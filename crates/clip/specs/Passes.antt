@@ -1,5 +1,5 @@
 -- The clip by two passes over whole lines, as the code does it: the first looks at the marks, the second writes a path. Inner definitions, proved equal to those of Clip. Definitions only.
-use Rattle.std.specs.Prelude.{Bool, true, false, not, ◌&&◌, ◌||◌, cond, List, [], ◌∷◌, ◌++◌, ℕ, suc, eqb, ltb, length, Float, Some, None}
+use Rattle.std.specs.Prelude.{Bool, true, false, not, ◌&&◌, ◌||◌, cond, List, [], ◌∷◌, ◌++◌, ℕ, suc, ltb, length, Float, Option, Some, None}
 use Rattle.std.specs.Option.{is_some}
 use Rattle.std.specs.Float.{binary64}
 use Rattle.std.specs.Float.Ieee.{add, sub, mul, div, lt, le, ne}
@@ -7,7 +7,6 @@ use Rattle.number.specs.Exact.{zeroᶠ, one}
 use Rattle.boundary.specs.declared.Point.{Point}
 use Rattle.boundary.specs.declared.Edge.{Edge}
 use Rattle.lists.specs.Lists.{fold}
-use Rattle.boundary.specs.Outline.{same_point}
 use Rattle.boundary.specs.Line.{along_of}
 use Rattle.boundary.specs.Line.{half}
 use Rattle.clip.specs.declared.HalfPlane.{HalfPlane}
@@ -15,7 +14,7 @@ use Rattle.clip.specs.declared.Marks.{Marks}
 use Rattle.clip.specs.declared.FirstPass.{FirstPass}
 use Rattle.clip.specs.declared.FirstPass.TheVariants.{StartsAt, AllKept, NoneKept}
 use Rattle.clip.specs.declared.PathEnds.{PathEnds}
-use Rattle.clip.specs.Clip.{point_along, coord_of}
+use Rattle.clip.specs.Clip.{point_along, coord_of, joint}
 
 -- ---- the marks of a line
 -- whether a coordinate is inside
@@ -79,28 +78,28 @@ first_pass_of s last es =
     cond (ltb start (length es)) (StartsAt start) (cond kept AllKept NoneKept)
 
 -- ---- the second pass
--- a path: where it starts and ends, and its lines
+-- a path: where it starts and ends, if it has begun, and its lines
 pub record Path : Type 0 where
-  pub ends : PathEnds
+  pub ends : Option PathEnds
   pub out : List Edge
 
 -- a line that is written or not
 abbrev pub if_on : Bool → Edge → List Edge
 if_on on e = cond on (e ∷ []) []
 
-abbrev pub line_between : Point → Point → Edge
-line_between p q = record { a = p; b = q }
+-- the joint from the end of a path to q
+abbrev pub joint_to : Option PathEnds → Point → List Edge
+joint_to None q = []
+joint_to (Some p) q = joint p.last q
 
--- a joint is needed: the path has begun, and ends elsewhere than at q
-abbrev pub joins_of : PathEnds → Point → Bool
-joins_of p q = not (eqb p.begun 0) && not (same_point p.last q)
-
-abbrev pub moved_of : PathEnds → Edge → PathEnds
-moved_of p e = record { begun = 1; start = record { x = cond (eqb p.begun 0) e.a.x p.start.x; y = cond (eqb p.begun 0) e.a.y p.start.y }; last = e.b }
+-- where a path starts and ends with e after it
+abbrev pub moved_of : Option PathEnds → Edge → PathEnds
+moved_of None e = record { start = e.a; last = e.b }
+moved_of (Some p) e = record { start = p.start; last = e.b }
 
 -- the path with e after it, where e is kept
 unfoldable pub followed : Path → Edge → Bool → Path
-followed t e true = record { ends = moved_of t.ends e; out = (t.out ++ if_on (joins_of t.ends e.a) (line_between t.ends.last e.a)) ++ (e ∷ []) }
+followed t e true = record { ends = Some (moved_of t.ends e); out = (t.out ++ joint_to t.ends e.a) ++ (e ∷ []) }
 followed t e false = t
 
 -- the path with the parts of e after it
@@ -109,15 +108,17 @@ step_of s t e =
     let m = marks_of s e in
     followed (followed t (first_part m e) m.start_kept) (last_part m e) (is_some m.cut && m.end_kept)
 
-abbrev pub unbegun : PathEnds
-unbegun = record { begun = 0; start = record { x = zeroᶠ; y = zeroᶠ }; last = record { x = zeroᶠ; y = zeroᶠ } }
-
 abbrev pub nothing : Path
-nothing = record { ends = unbegun; out = [] }
+nothing = record { ends = None; out = [] }
+
+-- the joint from the end of a path to its start
+abbrev pub closing : Option PathEnds → List Edge
+closing None = []
+closing (Some p) = joint_to (Some p) p.start
 
 -- the path closed
 unfoldable pub closed_path : Path → List Edge
-closed_path t = t.out ++ if_on (joins_of t.ends t.ends.start) (line_between t.ends.last t.ends.start)
+closed_path t = t.out ++ closing t.ends
 
 -- the closed path of the lines of es, and then of those of fs
 unfoldable pub traced : HalfPlane → List Edge → List Edge → List Edge

@@ -34,19 +34,17 @@ pub enum FirstPass {
     NoneKept,
 }
 
-// A path: 0 where it has not begun and else 1, where it starts, and where it ends. (A bool here would
-// cost a stall at each line: the padding after it is copied.)
+// Where a path that has begun starts, and where it ends.
 #[derive(Clone, Copy)]
 pub struct PathEnds {
-    pub begun: usize,
     pub start: Point,
     pub last: Point,
 }
 
-// A path, and how many lines it has.
+// A path, which may not have begun, and how many lines it has.
 #[derive(Clone, Copy)]
 pub struct State {
-    pub ends: PathEnds,
+    pub ends: Option<PathEnds>,
     pub at: usize,
 }
 

@@ -62,5 +62,9 @@ pub fn first_pass(w: &[f64], from: usize, n: usize, s: HalfPlane) -> FirstPass
         }
         before = m.end_kept;
     }
-    if kept { FirstPass::AllKept } else { FirstPass::NoneKept }
+    if kept {
+        FirstPass::AllKept
+    } else {
+        FirstPass::NoneKept
+    }
 }
