@@ -15,7 +15,7 @@ use Rattle.algebra.proofs.Lin as L
 use Rattle.algebra.proofs.Lin.{le_from}
 use Rattle.algebra.specs.Order.{◌≦◌, ◌≺◌, ≤ℤ-or-<ℤ, <ℤ→≤ℤ, pos_nonneg}
 use Rattle.algebra.proofs.Mono.{mul_mono}
-use Rattle.number.specs.Exact.{Is, zeroᶠ}
+use Rattle.number.specs.Exact.{Is}
 use Rattle.number.specs.Rounding.{Rounds, Rounded, Result}
 use Rattle.number.proofs.Operations.{equation→is, is_unique, zero_is, add_rounds, sub_rounds}
 use Rattle.number.proofs.RoundingLaws.{rounds_order, rounds_order_is, rounded_neg, rounded_nonneg, rounded_relative_plus, result_cancel}

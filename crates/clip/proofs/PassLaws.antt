@@ -13,7 +13,6 @@ use Rattle.boundary.specs.declared.Edge.{Edge}
 use Rattle.lists.specs.Lists.{fold, any}
 use Rattle.boundary.specs.Line.{along_of}
 use Rattle.number.specs.Exact.{zeroᶠ, one}
-use Rattle.boundary.specs.Outline.{same_point}
 use Rattle.clip.specs.declared.HalfPlane.{HalfPlane}
 use Rattle.clip.specs.declared.Marks.{Marks}
 use Rattle.clip.specs.Clip.{point_along, coord_of, in_half_plane, crossing, crosses, Part, part_of, parts_of, parts, lead, last_kept, rotated, kept_lines, joint, onward, joined, clip_of}

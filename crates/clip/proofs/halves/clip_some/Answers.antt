@@ -1,5 +1,5 @@
 -- `clip::halves::clip_some` meets its contract. Assumes nothing.
-use Rattle.std.proofs.Common.{◌≡◌, ◌*◌, ◌<◌, refl, sym, ◌∙◌, not, true≢false, arith}
+use Rattle.std.proofs.Common.{◌*◌, refl, sym, ◌∙◌, not, true≢false, arith}
 use Rattle.clip.specs.Lent.{line_in}
 use Rattle.clip.proofs.LentLaws.{rest_kept}
 use Rattle.clip.proofs.StageLaws.{place_le, place_apart, all_parts_kept, none_kept_lem, last_out, starts_below, some_dropped, clip_traced, all_inside, all_outside, some_inside, short}

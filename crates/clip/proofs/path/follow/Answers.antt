@@ -1,5 +1,5 @@
 -- `clip::path::follow` meets its contract. Assumes nothing.
-use Rattle.std.proofs.Common.{◌∙◌, rules, arith}
+use Rattle.std.proofs.Common.{rules, arith}
 use Rattle.clip.specs.Passes.{followed}
 use Rattle.clip.proofs.LentLaws.{unchanged, then, path_kept}
 use Rattle.clip.proofs.path.follow.Goals as goal

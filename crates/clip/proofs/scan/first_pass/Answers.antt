@@ -1,5 +1,5 @@
 -- `clip::scan::first_pass` meets its contract: the lines so far do not come in, and the lines that are left give the start. Assumes nothing.
-use Rattle.std.proofs.Common.{◌≡◌, Bool, cond, sym, ap, ◌∙◌, arith}
+use Rattle.std.proofs.Common.{Bool, cond, sym, ap, ◌∙◌, arith}
 use native.Mathlib.Nat.{sub-zero, zero-add, add-zero}
 use Rattle.lists.proofs.RunLaws.{length_run}
 use Rattle.clip.specs.declared.Marks.{Marks}
