@@ -14,7 +14,11 @@ use Rattle.lists.proofs.RunLaws.{run_last, run_same, length_run}
 use Rattle.lists.specs.Lists.{run}
 use Rattle.clip.specs.declared.PathEnds.{PathEnds}
 use Rattle.clip.specs.declared.State.{State}
-use Rattle.clip.specs.Passes.{Path, if_on, line_between, joins_of, moved_of, followed, nothing, unbegun, closed_path}
+use Rattle.std.proofs.Common.{Some, None, not}
+use Rattle.boundary.specs.declared.Point.{Point}
+use Rattle.boundary.specs.Outline.{same_point}
+use Rattle.clip.specs.Clip.{joint}
+use Rattle.clip.specs.Passes.{Path, if_on, joint_to, moved_of, followed, nothing, closing, closed_path}
 use Rattle.clip.specs.Lent.{line_at, line_in, lines_from, put_at, disjoint, Beside, Holds, Tracks}
 
 -- ---- nothing changed but a range
@@ -111,17 +115,23 @@ one_le true = omega arith
 one_le false = omega arith
 
 -- ---- a path goes on, begins, and is closed
-pub path_kept : {to room : ℕ} {w v : List Float} {s : State} {t : Path} (h : Tracks to room w s t) (e : Edge) (ends : PathEnds) (on : Bool) (joint : Edge) (n : ℕ)
-    → ends ≡ moved_of s.ends e → on ≡ joins_of s.ends e.a → joint ≡ line_between s.ends.last e.a
-    → Holds to room v n ((t.out ++ if_on on joint) ++ (e ∷ [])) → Tracks to room v (record { ends = ends; at = n }) (followed t e true)
-unfolding followed
-path_kept h e ends on joint n p q r k = record { ends = rw (p, h.ends); held = rw (q, r, h.ends) at k }
+pub if_joint : (p q : Point) → if_on (not (same_point p q)) (record { a = p; b = q }) ≡ joint p q
+unfolding joint
+if_joint p q = by (same_point p q)
+  where
+    by : (b : Bool) → if_on (not b) (record { a = p; b = q }) ≡ cond b [] (record { a = p; b = q } ∷ [])
+    by true = refl
+    by false = refl
 
-pub starts : {to room : ℕ} {w : List Float} {s : State} → s ≡ record { ends = unbegun; at = 0 } → Tracks to room w s nothing
+pub path_kept : {to room : ℕ} {w v : List Float} {s : State} {t : Path} (h : Tracks to room w s t) (e : Edge) (ends : PathEnds) (n : ℕ) → ends ≡ moved_of s.ends e
+    → Holds to room v n ((t.out ++ joint_to s.ends e.a) ++ (e ∷ [])) → Tracks to room v (record { ends = Some ends; at = n }) (followed t e true)
+unfolding followed
+path_kept h e ends n p k = record { ends = rw (p, h.ends); held = rw h.ends at k }
+
+pub starts : {to room : ℕ} {w : List Float} {s : State} → s ≡ record { ends = None; at = 0 } → Tracks to room w s nothing
 unfolding run
 starts e = rw e (record { ends = refl; held = record { count = refl; list = λ l. refl } })
 
-pub closes : {to room : ℕ} {w v : List Float} {s : State} {t : Path} (h : Tracks to room w s t) (on : Bool) (joint : Edge) (n : ℕ)
-    → on ≡ joins_of s.ends s.ends.start → joint ≡ line_between s.ends.last s.ends.start → Holds to room v n (t.out ++ if_on on joint) → Holds to room v n (closed_path t)
+pub closes : {to room : ℕ} {w v : List Float} {s : State} {t : Path} (h : Tracks to room w s t) (n : ℕ) → Holds to room v n (t.out ++ closing s.ends) → Holds to room v n (closed_path t)
 unfolding closed_path
-closes h on joint n p q k = rw (p, q, h.ends) at k
+closes h n k = rw h.ends at k

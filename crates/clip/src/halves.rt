@@ -2,7 +2,7 @@
 ghost use Rattle.std.specs.Prelude.{◌≡◌, ◌*◌, ◌<◌, ◌≤◌, length};
 ghost use Rattle.clip.specs.Lent.{place_of, Clipped};
 
-use crate::{HalfPlane, Stored, path, scan};
+use crate::{FirstPass, HalfPlane, Stored, path, scan};
 
 // Where a half starts.
 pub fn place(half: usize, second: bool) -> usize
@@ -21,18 +21,17 @@ fn clip_some(w: &mut [f64], half: usize, c: Stored, s: HalfPlane) -> Stored
     let n = c.n;
     let second = c.second;
     let from = place(half, second);
-    let found = scan::first_pass(w, from, n, s);
-    if found.start == n {
-        if found.kept {
-            return Stored { second, n };
+    match scan::first_pass(w, from, n, s) {
+        FirstPass::AllKept => c,
+        FirstPass::NoneKept => Stored { second, n: 0 },
+        FirstPass::StartsAt(start) => {
+            let to = place(half, !second);
+            let m = path::trace(w, s, from, n, to, half, start);
+            Stored {
+                second: !second,
+                n: m,
+            }
         }
-        return Stored { second, n: 0 };
-    }
-    let to = place(half, !second);
-    let m = path::trace(w, s, from, n, to, half, found.start);
-    Stored {
-        second: !second,
-        n: m,
     }
 }
 

@@ -2,12 +2,11 @@
 ghost use Rattle.std.specs.Prelude.{◌≡◌, cond, List, ◌++◌, ◌+◌, ◌-◌, ◌*◌, ◌<◌, ◌≤◌, length};
 ghost use Rattle.boundary.specs.declared.Edge.{Edge};
 ghost use Rattle.lists.specs.Lists.{fold};
-ghost use Rattle.clip.specs.Passes.{Path, if_on, line_between, joins_of, moved_of, followed, step_of, unbegun, closed_path, traced};
+ghost use Rattle.clip.specs.Passes.{Path, if_on, joint_to, moved_of, followed, step_of, closed_path, traced};
 ghost use Rattle.clip.specs.Lent.{lines_from, put_at, disjoint, Beside, Holds, Tracks};
 
 use crate::{HalfPlane, PathEnds, State, parts, scan};
 use boundary::{Edge, Point, same_point};
-use number::signs::pick;
 
 fn put(w: &mut [f64], o: usize, e: Edge)
     requires { o + 4 ≤ length w.old }
@@ -35,32 +34,34 @@ pub fn emit(w: &mut [f64], to: usize, room: usize, at: usize, e: Edge, on: bool)
     at + 1
 }
 
-// Whether a joint is needed from the path's end to q.
-fn joins(p: PathEnds, q: Point) -> bool
-    ensures { result ≡ joins_of p q }
+// Writes the joint from the path's end to q, where one is needed; how many lines the path has then.
+fn join(w: &mut [f64], to: usize, room: usize, s: State, q: Point) -> usize
+    requires { (to + 4 * room ≤ length w.old) × (s.at < 9223372036854775808) }
+    ensures { (result ≤ s.at + 1) × Beside to (4 * room) w.old w.new
+        × ((es : List Edge) → Holds to room w.old s.at es → Holds to room w.new result (es ++ joint_to s.ends q)) }
 {
-    (p.begun != 0) & !same_point(p.last, q)
-}
-
-fn line(p: Point, q: Point) -> Edge
-    ensures { result ≡ line_between p q }
-{
-    Edge { a: p, b: q }
-}
-
-// The path once e is written.
-fn moved(p: PathEnds, e: Edge) -> PathEnds
-    ensures { result ≡ moved_of p e }
-{
-    let last = e.b;
-    PathEnds {
-        begun: 1,
-        start: Point {
-            x: pick(p.begun == 0, e.a.x, p.start.x),
-            y: pick(p.begun == 0, e.a.y, p.start.y),
-        },
-        last,
+    match s.ends {
+        None => s.at,
+        Some(p) => emit(
+            w,
+            to,
+            room,
+            s.at,
+            Edge { a: p.last, b: q },
+            !same_point(p.last, q),
+        ),
     }
+}
+
+// The path's ends once e is written.
+fn moved(ends: Option<PathEnds>, e: Edge) -> PathEnds
+    ensures { result ≡ moved_of ends e }
+{
+    let start = match ends {
+        None => e.a,
+        Some(p) => p.start,
+    };
+    PathEnds { start, last: e.b }
 }
 
 // Writes a part that is kept, after the joint to it.
@@ -72,11 +73,10 @@ fn follow(w: &mut [f64], to: usize, room: usize, s: State, e: Edge, kept: bool) 
     if !kept {
         return s;
     }
-    let ends = s.ends;
-    let at = emit(w, to, room, s.at, line(ends.last, e.a), joins(ends, e.a));
+    let at = join(w, to, room, s, e.a);
     let next = emit(w, to, room, at, e, true);
     State {
-        ends: moved(ends, e),
+        ends: Some(moved(s.ends, e)),
         at: next,
     }
 }
@@ -88,11 +88,13 @@ fn step(w: &mut [f64], side: HalfPlane, e: Edge, to: usize, room: usize, s: Stat
         × ((t : Path) → Tracks to room w.old s t → Tracks to room w.new result (step_of side t e)) }
 {
     let m = parts::marked(side, e);
-    if !m.cut {
-        return follow(w, to, room, s, e, m.startKept);
+    match m.cut {
+        None => follow(w, to, room, s, e, m.start_kept),
+        Some(u) => {
+            let a = follow(w, to, room, s, parts::first(e, u), m.start_kept);
+            follow(w, to, room, a, parts::second(e, u), m.end_kept)
+        }
     }
-    let a = follow(w, to, room, s, parts::first(m, e), m.startKept);
-    follow(w, to, room, a, parts::second(m, e), m.endKept)
 }
 
 // Writes the parts of the n lines that stand from `from` on, from line `start` on and going round.
@@ -112,28 +114,18 @@ fn run(
 {
     let mut now = s;
     let mut i = start;
-    let mut k = 0;
-    while k < n {
+    for _ in 0..n {
         let e = scan::line_at(w, from + 4 * i);
         now = step(w, side, e, to, room, now);
         i = boundary::next(i, n);
-        k += 1;
     }
     now
 }
 
 fn empty() -> State
-    ensures { result ≡ record { ends = unbegun; at = 0 } }
+    ensures { result ≡ record { ends = None; at = 0 } }
 {
-    let p = Point { x: 0.0, y: 0.0 };
-    State {
-        ends: PathEnds {
-            begun: 0,
-            start: p,
-            last: p,
-        },
-        at: 0,
-    }
+    State { ends: None, at: 0 }
 }
 
 // Writes the joint from the path's end to its start, where one is needed; how many lines the path has.
@@ -142,15 +134,10 @@ fn close(w: &mut [f64], to: usize, room: usize, s: State) -> usize
     ensures { Beside to (4 * room) w.old w.new
         × ((t : Path) → Tracks to room w.old s t → Holds to room w.new result (closed_path t)) }
 {
-    let ends = s.ends;
-    emit(
-        w,
-        to,
-        room,
-        s.at,
-        line(ends.last, ends.start),
-        joins(ends, ends.start),
-    )
+    match s.ends {
+        None => s.at,
+        Some(p) => join(w, to, room, s, p.start),
+    }
 }
 
 // Writes the path of the n lines at `from`, from line `start` on and going round; how many lines it has,

@@ -43,26 +43,28 @@ fn marks_at(w: &[f64], o: usize, s: HalfPlane) -> Marks
 fn comes_in(before: bool, m: Marks) -> bool
     ensures { result ≡ comes_in before m }
 {
-    (m.startKept & !before) | (m.endKept & !m.startKept)
+    (m.start_kept & !before) | (m.end_kept & !m.start_kept)
 }
 
 // Looks at the n lines that stand from `from` on; the last is the one before the first. Where no line
 // comes in, all parts are marked as the last one is.
 pub fn first_pass(w: &[f64], from: usize, n: usize, s: HalfPlane) -> FirstPass
     requires { (1 ≤ n) × (from + 4 * n ≤ length w.now) }
-    ensures { (result ≡ first_pass_of s (line_in w.now from (n - 1)) (lines_from w.now from 0 n)) × (result.start ≤ n) }
+    ensures { result ≡ first_pass_of s (line_in w.now from (n - 1)) (lines_from w.now from 0 n) }
 {
     let last = marks_at(w, from + 4 * (n - 1), s);
-    let kept = last.endKept;
+    let kept = last.end_kept;
     let mut before = kept;
-    let mut i = 0;
-    while i < n {
+    for i in 0..n {
         let m = marks_at(w, from + 4 * i, s);
         if comes_in(before, m) {
-            return FirstPass { kept, start: i };
+            return FirstPass::StartsAt(i);
         }
-        before = m.endKept;
-        i += 1;
+        before = m.end_kept;
     }
-    FirstPass { kept, start: n }
+    if kept {
+        FirstPass::AllKept
+    } else {
+        FirstPass::NoneKept
+    }
 }

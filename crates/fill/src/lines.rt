@@ -20,14 +20,12 @@ fn outside_end(v: &[f64], i: usize, s: HalfPlane) -> usize
         return i;
     }
     let n = v.len() / 2;
-    let mut j = i;
-    while j + 1 < n {
-        if in_half_plane(s, vertex_at(v, j + 1)) {
-            return j;
+    for j in i + 1..n {
+        if in_half_plane(s, vertex_at(v, j)) {
+            return j - 1;
         }
-        j += 1;
     }
-    j
+    n - 1
 }
 
 // The chord from vertex i on: over vertices outside a bound, or else the edge.
@@ -52,7 +50,7 @@ fn chord(v: &[f64], i: usize, low: HalfPlane, high: HalfPlane) -> Chord
     }
 }
 
-// Writes the chords to the front of w.
+// Writes the chords to the front of w. The loop is no `for`: a chord may go on by many vertices.
 pub fn write_chords(v: &[f64], low: HalfPlane, high: HalfPlane, w: &mut [f64]) -> Written
     requires { (4 * count v.now ≤ length w.old) × StripOf low high v.now }
     ensures { (result.n ≤ count v.now) × (result.beyond ≤ count v.now) × Beside 0 (4 * count v.now) w.old w.new
@@ -70,7 +68,7 @@ pub fn write_chords(v: &[f64], low: HalfPlane, high: HalfPlane, w: &mut [f64]) -
             b: vertex_at(v, next(to - 1, n)),
         };
         at = clip::path::emit(w, 0, n, at, e, true);
-        beyond = beyond + c.beyond;
+        beyond += c.beyond;
         i = to;
     }
     Written { n: at, beyond }
