@@ -54,7 +54,7 @@ fn from_first(keys: &[f64], a: &[u32], i: usize, b: &[u32], j: usize) -> bool
 {
     if i < a.len() {
         if j < b.len() {
-            return before(keys, lists::at(a, i, 0), lists::at(b, j, 0));
+            return before(keys, a[i], b[j]);
         }
         return true;
     }
@@ -70,10 +70,10 @@ fn merged(keys: &[f64], a: &[u32], b: &[u32], s: &mut [u32])
     let mut j = 0;
     for place in s.iter_mut() {
         if from_first(keys, a, i, b, j) {
-            *place = lists::at(a, i, 0);
+            *place = a[i];
             i += 1;
         } else {
-            *place = lists::at(b, j, 0);
+            *place = b[j];
             j += 1;
         }
     }
