@@ -2,8 +2,6 @@
 
 -- What the records tell.
 pub mod RecordLaws
--- Records written to a lent list.
-pub mod OfferLaws
 -- The machine value of a `Recording`.
 pub mod RecordingIs
 -- A local array in memory.

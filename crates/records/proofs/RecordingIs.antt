@@ -1,5 +1,5 @@
 -- The machine value of a `Recording`, field by field. Assumes nothing.
-use mathlib.Core.Path.{◌≡◌, sym, ap, subst, ◌∙◌}
+use mathlib.Core.Path.{◌≡◌, sym, ap, ◌∙◌}
 use mathlib.Core.List.{List, [], ◌∷◌, map}
 use Prim.Native.Nat.{◌<◌, ◌^◌}
 use lib.ListN.{length-map}

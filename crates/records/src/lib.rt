@@ -12,7 +12,7 @@ use accept::refusals::refusing;
 use accept::{Refusal, Test};
 use boundary::Point;
 use index::{building, refusals};
-use nodes::Node;
+use nodes::{IndexView, Node};
 
 // What the call returns, how many nodes there are, and the nodes, at the front of a list.
 #[derive(Clone, Copy)]
@@ -23,19 +23,16 @@ pub struct Recording {
 }
 
 // Node i of an index buffer.
-fn node_in(corners: &[f64], links: &[u32], i: usize) -> Node
+fn node_in(view: &IndexView, i: usize) -> Node
     requires { i < 2 ^ 32 }
-    ensures { result ≡ node_in corners.now links.now i }
+    ensures { result ≡ node_in view.now.corners.now view.now.links.now i }
 {
-    let b = boxes::box_at(corners, i);
-    let lo = b.min;
-    let hi = b.max;
-    let k = 2 * i;
+    let b = view.box_at(i);
     Node {
-        lo,
-        hi,
-        first: lists::at(links, k, 0),
-        count: lists::at(links, k + 1, 0),
+        lo: b.min,
+        hi: b.max,
+        first: view.first_at(i),
+        count: view.count_at(i),
     }
 }
 
@@ -54,15 +51,13 @@ fn blank() -> [Node; 511]
 }
 
 // The first n nodes of an index buffer, at the front of a list.
-fn listed(corners: &[f64], links: &[u32], n: usize) -> [Node; 511]
+fn listed(view: &IndexView, n: usize) -> [Node; 511]
     requires { n ≤ 511 }
-    ensures { result ≡ at_front (run (node_in corners.now links.now) 0 n) blank_nodes }
+    ensures { result ≡ at_front (run (node_in view.now.corners.now view.now.links.now) 0 n) blank_nodes }
 {
     let mut list = blank();
-    let mut i = 0;
-    while i < n {
-        list[i] = node_in(corners, links, i);
-        i += 1;
+    for (i, place) in list[..n].iter_mut().enumerate() {
+        *place = node_in(view, i);
     }
     list
 }
@@ -75,7 +70,12 @@ fn recorded(boxes: &[f64], items: &mut [u32]) -> Recording
     let mut corners = [0.0; 2044];
     let mut links = [0; 1022];
     let count = building::grow(boxes, &mut corners, &mut links, items);
-    let list = listed(&corners, &links, count);
+    let view = IndexView {
+        corners: &corners,
+        links: &links,
+        items,
+    };
+    let list = listed(&view, count);
     Recording {
         number: 0,
         count,
@@ -137,9 +137,5 @@ pub fn offer(nodes: &mut [Node], list: [Node; 511], n: usize)
     requires { (n ≤ 511) × (n ≤ length nodes.old) }
     ensures { nodes.new ≡ take n list ++ drop n nodes.old }
 {
-    let mut i = 0;
-    while i < n {
-        nodes[i] = list[i];
-        i += 1;
-    }
+    nodes[..n].copy_from_slice(&list[..n]);
 }

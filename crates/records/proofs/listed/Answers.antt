@@ -1,27 +1,25 @@
 -- `records::listed` meets its contract. Assumes nothing.
-use Rattle.lists.proofs.FrontLaws.{front_more_run, front_run}
-use Rattle.records.proofs.RecordLaws.{length_blank}
-use Rattle.records.specs.Records.{blank_nodes}
+use Rattle.std.proofs.Common.{◌≡◌, length, take, refl, ap, ◌∙◌, arith, append-nil}
+use Rattle.std.proofs.lemmas.List.{length-take-le, drop_all}
 use Rattle.lists.specs.Lists.{run}
-use lib.ListN.{length, length-set}
-use mathlib.Core.Path.{ap, ◌∙◌}
-use native.Mathlib.Nat.{le_antisymm}
-use native.Mathlib.Omega.{arith}
-use borrow.Author.Rules.{rules}
+use Rattle.lists.proofs.FrontLaws.{front_more_run, front_run}
+use Rattle.records.specs.Records.{blank_nodes}
+use Rattle.records.proofs.RecordLaws.{length_blank}
 use Rattle.records.proofs.listed.Goals as goal
 
 pub loop-i-init : goal.loop-i-init
 unfolding run
-loop-i-init c = (search rules, ap length c.blank-list.ensures ∙ length_blank, c.blank-list.ensures)
+loop-i-init c = refl
 
 pub loop-i-preserved : goal.loop-i-preserved
-loop-i-preserved c =
-    let v = c.loop-i.invariant in
-    let h = c.loop-i-test.true in
-    let m = c.requires in
-    (search rules, rw length-set v.1, front_more_run _ blank_nodes _ _ _ (omega (arith, length_blank)) c.node_in.ensures v.2)
+loop-i-preserved c = front_more_run _ _ _ _ _ c.loop-i-test.true c.node_in.ensures c.loop-i.invariant
 
 pub returns : goal.returns
 returns c =
-    let v = c.loop-i.invariant in
-    (rw (le_antisymm v.0 c.loop-i-test.false) at v.2) ∙ front_run _ _ blank_nodes
+    let e = c.blank-list.ensures in
+    let b = ap length e ∙ length_blank in
+    let m = c.requires in
+    let k = length-take-le c.args.n c.blank-list.result (omega arith) in
+    let n : c.loop-i.i ≡ c.args.n = omega arith in
+    let none = drop_all c.args.n (take c.args.n c.blank-list.result) (omega arith) in
+    rw (c.loop-i.invariant, n, none, append-nil, e) (front_run _ _ blank_nodes)
