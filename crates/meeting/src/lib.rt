@@ -20,6 +20,7 @@ use accept::{Answer, Refusal, Test};
 use boundary::Bounds;
 use index::building;
 use index::refusals::{boxes_tested, short_index};
+use nodes::IndexView;
 
 // Stores x at k, where there is room, and gives the next place.
 fn push(list: &mut [u32], k: usize, x: u32) -> usize
@@ -31,76 +32,57 @@ fn push(list: &mut [u32], k: usize, x: u32) -> usize
 }
 
 // Stores a leaf's items from the place k on, and gives the next place.
-fn copy(items: &[u32], first: usize, count: usize, list: &mut [u32], k: usize) -> usize
+fn copy(view: &IndexView, first: usize, count: usize, list: &mut [u32], k: usize) -> usize
     requires { (first + count < 2 ^ 40) × (k ≤ length list.old) }
-    ensures { record { answer = result; lent = list.new } ≡ put_from list.old k (run (item_at items.now) first count) }
+    ensures { record { answer = result; lent = list.new } ≡ put_from list.old k (run (item_at view.now.items.now) first count) }
 {
-    let mut i = 0;
     let mut j = k;
-    while i < count {
-        j = push(list, j, lists::at(items, first + i, 0));
-        i += 1;
+    for i in first..first + count {
+        j = push(list, j, view.item_at(i));
     }
     j
 }
 
 // Whether the box of the node n shares no point with the cell.
-fn misses(corners: &[f64], n: usize, c: Bounds) -> bool
+fn misses(view: &IndexView, n: usize, c: Bounds) -> bool
     requires { n ≤ 2 ^ 32 }
-    ensures { result ≡ apart (box_at corners.now n) c }
+    ensures { result ≡ apart (box_at view.now.corners.now n) c }
 {
-    let b = boxes::box_at(corners, n);
+    let b = view.box_at(n);
     (c.max.x < b.min.x) | ((b.max.x < c.min.x) | ((c.max.y < b.min.y) | (b.max.y < c.min.y)))
 }
 
 // Lists what the walk finds below the node n, at most `depth` levels deep, from the place k on, and gives
 // the next place.
-fn visit(
-    corners: &[f64],
-    links: &[u32],
-    items: &[u32],
-    depth: usize,
-    n: usize,
-    c: Bounds,
-    list: &mut [u32],
-    k: usize,
-) -> usize
+fn visit(view: &IndexView, depth: usize, n: usize, c: Bounds, list: &mut [u32], k: usize) -> usize
     requires { (n ≤ 2 ^ 32) × (k ≤ length list.old) }
     ensures { record { answer = result; lent = list.new }
-        ≡ put_from list.old k (hits depth (buffer corners.now links.now items.now) c n) }
+        ≡ put_from list.old k (hits depth (buffer view.now.corners.now view.now.links.now view.now.items.now) c n) }
 {
     if depth == 0 {
         return k;
     }
-    if misses(corners, n, c) {
+    if misses(view, n, c) {
         return k;
     }
-    let first = lists::at(links, 2 * n, 0) as usize;
-    let count = lists::at(links, 2 * n + 1, 0) as usize;
+    let first = view.first_at(n) as usize;
+    let count = view.count_at(n) as usize;
     if count > 0 {
-        return copy(items, first, count, list, k);
+        return copy(view, first, count, list, k);
     }
-    let j = visit(corners, links, items, depth - 1, first, c, list, k);
-    visit(corners, links, items, depth - 1, first + 1, c, list, j)
+    let j = visit(view, depth - 1, first, c, list, k);
+    visit(view, depth - 1, first + 1, c, list, j)
 }
 
 // The walk from the root, at most `depth` levels deep, where there are boxes: n counts their numbers.
-pub fn walk(
-    n: usize,
-    depth: usize,
-    corners: &[f64],
-    links: &[u32],
-    items: &[u32],
-    c: Bounds,
-    list: &mut [u32],
-) -> usize
+pub fn walk(n: usize, depth: usize, view: &IndexView, c: Bounds, list: &mut [u32]) -> usize
     ensures { record { answer = result; lent = list.new }
-        ≡ put_from list.old 0 (found depth n (buffer corners.now links.now items.now) c) }
+        ≡ put_from list.old 0 (found depth n (buffer view.now.corners.now view.now.links.now view.now.items.now) c) }
 {
     if n == 0 {
         return 0;
     }
-    visit(corners, links, items, depth, 0, c, list, 0)
+    visit(view, depth, 0, c, list, 0)
 }
 
 // Lists what meets the cell; the index is built in the lent buffers, and cleared.
@@ -121,15 +103,12 @@ fn listed(
         ≡ listing boxes.now c (buffer corners.old links.old items.old) list.old }
 {
     building::grow_or_leaf(boxes, corners, links, items);
-    let count = walk(
-        boxes.len(),
-        building::LEVELS,
+    let view = IndexView {
         corners,
         links,
         items,
-        c,
-        list,
-    );
+    };
+    let count = walk(boxes.len(), building::LEVELS, &view, c, list);
     building::clear(corners, links, items);
     count
 }

@@ -4,11 +4,11 @@ use mathlib.Core.Path.{◌≡◌, refl, sym, ap, ap₂, ◌∙◌}
 use mathlib.Core.List.{List, [], ◌∷◌, ◌++◌, append-nil}
 use mathlib.Core.Bool.{Bool, true, false, cond, false≢true}
 use lib.ListN.{length, get_or, take, drop, set, drop_of_length-le, length-set, length-append, length-drop, take-append-drop}
-use lib.Seq.{drop-cons, take-suc, take-suc-set, append_snoc, take_all, drop-set-lt, drop-drop, drop_at, take_at, take-append-le, drop-append-le, length-take-le}
+use lib.Seq.{drop-cons, take-suc-set, append_snoc, take_all, drop_at, take_at, take-append-le, drop-append-le, length-take-le}
 use lib.Dec.{ltb}
 use borrow.Author.Tests.{ltb-true, ltb-false}
 use native.Mathlib.Numerals.{add-one}
-use native.Mathlib.Nat.{add_assoc, add_right_comm, sub-zero}
+use native.Mathlib.Nat.{add_assoc, add_right_comm}
 use native.Mathlib.Omega.{arith}
 use Rattle.sorts.specs.Sort.{insert, sort, merge, merge_on, from_first}
 
@@ -158,33 +158,6 @@ module _ (le : ℕ → ℕ → Bool)
       let e₂ = rw (drop_of_length-le bl q) at e₁ in
       sym (take_all (i + j) s h) ∙ sym (append-nil (take (i + j) s)) ∙ e₂
 
--- ---- copying: the first i are there
-
-pub record Copying (s t₀ t : List ℕ) (i : ℕ) : Type 0 where
-  pub within : i ≤ length s
-  pub fits : length s ≤ length t
-  pub kept : length t ≡ length t₀
-  pub same : take i t ≡ take i s
-  pub rest : drop i t ≡ drop i t₀
-
-pub copying_more : (s t₀ t : List ℕ) (i : ℕ) → Copying s t₀ t i → i < length s → (t' : List ℕ) (v : ℕ) → v ≡ get_or s i 0 → t' ≡ set t i v → Copying s t₀ t' (i + 1)
-copying_more s t₀ t i k h t' v e w =
-    let n = k.fits in
-    let h' : i < length t = omega arith in
-    record {
-      within = omega arith;
-      fits = rw (w, length-set) n;
-      kept = rw (w, length-set) k.kept;
-      same = rw (w, e) (rw (add-one, take-suc-set t i (get_or s i 0) h', take-suc s i 0 h) (ap (λ (l : List ℕ). l ++ (get_or s i 0 ∷ [])) k.same));
-      rest = rw w (rw (drop-set-lt (i + 1) t i v (omega arith)) (sym (drop-drop 1 i t) ∙ ap (drop 1) k.rest ∙ drop-drop 1 i t₀));
-    }
-
-pub copying_done : (s t₀ t : List ℕ) (i : ℕ) → Copying s t₀ t i → length s ≤ i → t ≡ s ++ drop (length s) t₀
-copying_done s t₀ t i k h =
-    let n = k.within in
-    let e : i ≡ length s = omega arith in
-    sym (take-append-drop i t) ∙ ap₂ (λ (x y : List ℕ). x ++ y) (k.same ∙ take_all i s h) (k.rest ∙ ap (λ (n : ℕ). drop n t₀) e)
-
 -- ---- a slice's first m are sorted in place, then the rest
 
 -- the part from m on of what starts with m elements and goes on as S does
@@ -206,9 +179,9 @@ short_sorted le (x ∷ y ∷ ys) h = absurd (omega arith)
 
 -- copied and merged
 pub joined_is : (le : ℕ → ℕ → Bool) (S D T R : List ℕ) (m : ℕ) → m ≤ length S → T ≡ S ++ D
-    → R ≡ merge le (take (m - 0) (drop 0 T)) (take (length S - m) (drop m T)) → R ≡ merge le (take m S) (drop m S)
+    → R ≡ merge le (take m T) (take (length S - m) (drop m T)) → R ≡ merge le (take m S) (drop m S)
 joined_is le S D T R m h et er =
-    let p : take (m - 0) (drop 0 T) ≡ take m S = ap₂ (λ (k : ℕ) (l : List ℕ). take k l) (sub-zero m) et ∙ take-append-le m S D h in
+    let p : take m T ≡ take m S = ap (take m) et ∙ take-append-le m S D h in
     let q : take (length S - m) (drop m T) ≡ drop m S = ap (λ (l : List ℕ). take (length S - m) (drop m l)) et ∙ ap (take (length S - m)) (drop-append-le m S D h) ∙ take_at (drop m S) D (length S - m) (length-drop m S) in
     er ∙ ap₂ (merge le) p q
 

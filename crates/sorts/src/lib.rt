@@ -1,19 +1,18 @@
 // A merge sort of item numbers by a key, with lent working space.
 #![tactic(auto)]
 
-ghost use Rattle.std.specs.Prelude.{◌≡◌, ◌++◌, ◌+◌, ◌≤◌, length, take, drop};
+ghost use Rattle.std.specs.Prelude.{◌≡◌, not, ◌+◌, ◌≤◌, length, take, drop};
 ghost use Rattle.sorts.specs.Sort.{sort, merge, from_first, parted_by, Dealt};
-ghost use Rattle.sorts.specs.Keys.{total_less, precedes_by, precedes, ahead, ahead_bit, key_in};
+ghost use Rattle.sorts.specs.Keys.{total_less, precedes_by, precedes, ahead, key_in};
 
 // The key of item i, NaN past the end.
 pub fn key(keys: &[f64], i: u32) -> f64
     ensures { result ≡ key_in keys.now i }
 {
-    let k = i as usize;
-    if k < keys.len() { keys[k] } else { 0.0 / 0.0 }
+    lists::number_at(keys, i as usize)
 }
 
-// Whether x comes before y, as `total_cmp` has it.
+// Whether x comes before y, as `total_cmp` has it; that of std takes no NaN, and a NaN may be a key here.
 fn total_less(x: f64, y: f64) -> bool
     ensures { result ≡ total_less x y }
 {
@@ -55,7 +54,7 @@ fn from_first(keys: &[f64], a: &[u32], i: usize, b: &[u32], j: usize) -> bool
 {
     if i < a.len() {
         if j < b.len() {
-            return before(keys, lists::at(a, i, 0), lists::at(b, j, 0));
+            return before(keys, a[i], b[j]);
         }
         return true;
     }
@@ -67,28 +66,16 @@ fn merged(keys: &[f64], a: &[u32], b: &[u32], s: &mut [u32])
     requires { length s.old ≡ length a.now + length b.now }
     ensures { s.new ≡ merge (precedes (key_in keys.now)) a.now b.now }
 {
-    let mut i: usize = 0;
-    let mut j: usize = 0;
-    while i + j < s.len() {
+    let mut i = 0;
+    let mut j = 0;
+    for place in s.iter_mut() {
         if from_first(keys, a, i, b, j) {
-            lists::put(s, i + j, lists::at(a, i, 0));
+            *place = a[i];
             i += 1;
         } else {
-            lists::put(s, i + j, lists::at(b, j, 0));
+            *place = b[j];
             j += 1;
         }
-    }
-}
-
-// The first members of t become s.
-fn copied(s: &[u32], t: &mut [u32])
-    requires { length s.now ≤ length t.old }
-    ensures { t.new ≡ s.now ++ drop (length s.now) t.old }
-{
-    let mut i: usize = 0;
-    while i < s.len() {
-        lists::put(t, i, lists::at(s, i, 0));
-        i += 1;
     }
 }
 
@@ -98,9 +85,9 @@ fn joined(keys: &[f64], s: &mut [u32], m: usize, t: &mut [u32])
     ensures { s.new ≡ merge (precedes (key_in keys.now)) (take m s.old) (drop m s.old) }
 {
     let n = s.len();
-    copied(s, t);
+    t[..n].copy_from_slice(s);
     let w = &t[..];
-    merged(keys, &w[0..m], &w[m..n], s);
+    merged(keys, &w[..m], &w[m..n], s);
 }
 
 // s in order; t is working space, at least as long.
@@ -118,49 +105,52 @@ pub fn sorted(keys: &[f64], s: &mut [u32], t: &mut [u32])
     joined(keys, s, m, t);
 }
 
-// Whether x, whose key is k, goes before the number t with the key v: 1 or 0. Before the number 0 with a key other
-// than zero go just those with lesser keys, so that this test, which does not depend on x, leaves one comparison.
-fn is_ahead(k: f64, x: u32, v: f64, t: u32) -> usize
-    ensures { result ≡ ahead_bit v k t x }
-{
-    if (t == 0) & ((v < 0.0) | (0.0 < v)) {
-        return if k < v { 1 } else { 0 };
-    }
-    if (k < v) | (v < k) {
-        return if k < v { 1 } else { 0 };
-    }
-    if tied(v, k, t, x) { 0 } else { 1 }
+// Parts a list: the number goes before it, where its key does too.
+#[derive(Clone, Copy)]
+pub struct Pivot {
+    pub key: f64,
+    pub number: u32,
 }
 
-// Puts the members of s that go before the pivot, the number x with the key v, at its front, and the others
-// at the front of t; gives how many go before.
-fn dealt(keys: &[f64], v: f64, x: u32, s: &mut [u32], t: &mut [u32]) -> usize
-    requires { length s.old ≤ length t.old }
-    ensures { Dealt (ahead (key_in keys.now) v x) s.old t.old s.new t.new result (length s.old) }
+// Whether the number x, whose key is k, goes before the pivot. Before the number 0 with a key other than zero go
+// just those with lesser keys, so that this test, which does not depend on x, leaves one comparison.
+fn is_ahead(k: f64, x: u32, pivot: Pivot) -> bool
+    ensures { result ≡ not (precedes_by pivot.key k pivot.number x) }
 {
-    let mut a: usize = 0;
-    let mut i: usize = 0;
-    while i < s.len() {
-        let y = lists::at(s, i, 0);
-        let c = is_ahead(key(keys, y), y, v, x);
+    let v = pivot.key;
+    if (pivot.number == 0) & ((v < 0.0) | (0.0 < v)) {
+        return k < v;
+    }
+    if (k < v) | (v < k) {
+        return k < v;
+    }
+    !tied(v, k, pivot.number, x)
+}
+
+// Puts the members of s that go before the pivot at its front, and the others at the front of t; gives how many
+// go before.
+fn dealt(keys: &[f64], pivot: Pivot, s: &mut [u32], t: &mut [u32]) -> usize
+    requires { length s.old ≤ length t.old }
+    ensures { Dealt (ahead (key_in keys.now) pivot.key pivot.number) s.old t.old s.new t.new result (length s.old) }
+{
+    let mut a = 0;
+    for i in 0..s.len() {
+        let y = s[i];
         s[a] = y;
         t[i - a] = y;
-        a += c;
-        i += 1;
+        a += usize::from(is_ahead(key(keys, y), y, pivot));
     }
     a
 }
 
-// s becomes its members that go before the pivot, the number x with the key v, then the others, all in the
-// order in which they stood; gives how many go before. t is working space, at least as long.
-pub fn parted(keys: &[f64], v: f64, x: u32, s: &mut [u32], t: &mut [u32]) -> usize
+// s becomes its members that go before the pivot, then the others, all in the order in which they stood; gives
+// how many go before. t is working space, at least as long.
+pub fn parted(keys: &[f64], pivot: Pivot, s: &mut [u32], t: &mut [u32]) -> usize
     requires { length s.old ≤ length t.old }
-    ensures { record { count = result; list = s.new } ≡ parted_by (ahead (key_in keys.now) v x) s.old }
+    ensures { record { count = result; list = s.new } ≡ parted_by (ahead (key_in keys.now) pivot.key pivot.number) s.old }
 {
     let n = s.len();
-    let a = dealt(keys, v, x, s, t);
-    let k = n - a;
-    let w = &t[..];
-    copied(&w[0..k], &mut s[a..]);
+    let a = dealt(keys, pivot, s, t);
+    s[a..].copy_from_slice(&t[..n - a]);
     a
 }

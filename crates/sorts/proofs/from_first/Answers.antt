@@ -1,6 +1,4 @@
 -- `sorts::from_first` meets its contract. Assumes nothing.
-use mathlib.Core.Path.{◌∙◌, ap₂}
-use Rattle.sorts.specs.Keys.{precedes, key_in}
 use borrow.Author.Tests.{lt-ltb, le-ltb}
 use lib.ListN.{length}
 use Rattle.sorts.specs.Sort.{from_first}
@@ -10,7 +8,7 @@ pub returns-then-j-b : goal.returns-then-j-b
 unfolding from_first
 returns-then-j-b c =
     let a = c.args in
-    rw (lt-ltb a.i (length a.a.now) c.if-i-a.true, lt-ltb a.j (length a.b.now) c.if-j-b.true) (c.before-then-j-b.ensures ∙ ap₂ (precedes (key_in a.keys.now)) c.at.ensures c.at-then-j-b.ensures)
+    rw (lt-ltb a.i (length a.a.now) c.if-i-a.true, lt-ltb a.j (length a.b.now) c.if-j-b.true) c.before-then-j-b.ensures
 
 pub returns-then-i-a : goal.returns-then-i-a
 unfolding from_first

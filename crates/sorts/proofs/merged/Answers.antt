@@ -1,25 +1,38 @@
 -- `sorts::merged` meets its contract. Assumes nothing.
-use Rattle.sorts.proofs.Lists.{merging_first, merging_second, merging_done}
-use Rattle.sorts.proofs.Order.{goes_total, goes_trans}
-use mathlib.Core.Path.{refl, sym, ◌∙◌}
+use Rattle.std.proofs.Common.{◌≡◌, length, ◌<◌, ◌+◌, arith, refl, sym, ◌∙◌}
 use Rattle.sorts.specs.Keys.{precedes, key_in}
-use native.Mathlib.Omega.{arith}
+use Rattle.sorts.proofs.Lists.{step_first, step_second, merging_first, merging_second, merging_done}
+use Rattle.sorts.proofs.Order.{goes_total, goes_trans}
 use Rattle.sorts.proofs.merged.Goals as goal
+use Rattle.sorts.proofs.merged.Goals.{then-from_first, else-from_first}
 
-pub loop-i-init : goal.loop-i-init
-loop-i-init c = record { in_first = omega arith; in_second = omega arith; whole = c.requires; split = refl }
-
-pub loop-i-preserved-then-from_first : goal.loop-i-preserved-then-from_first
-loop-i-preserved-then-from_first c =
+pub bounds-a-i : goal.bounds-a-i
+bounds-a-i c =
     let K = c.args.keys.now in
-    merging_first (precedes (key_in K)) (goes_total (key_in K)) (goes_trans (key_in K)) _ _ _ _ _ c.loop-i.invariant c.put.new.s c.at.result c.loop-i-test.true (sym c.from_first.ensures ∙ c.if-from_first.true) c.at.ensures c.put.ensures
+    (step_first (precedes (key_in K)) (goes_total (key_in K)) (goes_trans (key_in K)) _ _ _ _ (sym c.from_first.ensures ∙ c.if-from_first.true)).0
 
-pub loop-i-preserved : goal.loop-i-preserved
-loop-i-preserved c =
+pub bounds-b-j : goal.bounds-b-j
+bounds-b-j c =
     let K = c.args.keys.now in
-    merging_second (precedes (key_in K)) (goes_total (key_in K)) (goes_trans (key_in K)) _ _ _ _ _ c.loop-i.invariant c.put-else-from_first.new.s c.at-else-from_first.result c.loop-i-test.true (sym c.from_first.ensures ∙ c.if-from_first.false) c.at-else-from_first.ensures c.put-else-from_first.ensures
+    let e = c.loop-place.invariant.0 in
+    let m = c.loop-place.invariant.1 in
+    let w = m.whole in
+    let n = c.loop-place.auto.s in
+    (step_second (precedes (key_in K)) (goes_total (key_in K)) (goes_trans (key_in K)) _ _ _ _ m.in_first (omega arith) (sym c.from_first.ensures ∙ c.if-from_first.false)).0
+
+pub loop-place-preserved : goal.loop-place-preserved
+loop-place-preserved c =
+    let K = c.args.keys.now in
+    let e : c.loop-place.place-index ≡ c.loop-place.i + c.loop-place.j = sym c.loop-place.invariant.0 in
+    let m = c.loop-place.invariant.1 in
+    let room : c.loop-place.i + c.loop-place.j < length c.loop-place.s = let n = c.loop-place.auto.s in omega arith in
+    elim c.if-from_first.branch [
+      | then-from_first w ↦ (omega arith, rw (w.i-is, w.j-is) (merging_first (precedes (key_in K)) (goes_total (key_in K)) (goes_trans (key_in K)) _ _ _ _ _ m _ _ room (sym c.from_first.ensures ∙ w.if-from_first.true) refl (rw (← e) w.s-is)))
+      | else-from_first w ↦ (omega arith, rw (w.i-is, w.j-is) (merging_second (precedes (key_in K)) (goes_total (key_in K)) (goes_trans (key_in K)) _ _ _ _ _ m _ _ room (sym c.from_first.ensures ∙ w.if-from_first.false) refl (rw (← e) w.s-is)))
+    ]
 
 pub returns : goal.returns
 returns c =
     let K = c.args.keys.now in
-    merging_done (precedes (key_in K)) (goes_total (key_in K)) (goes_trans (key_in K)) _ _ _ _ _ c.loop-i.invariant c.loop-i-test.false
+    let l = c.loop-place.invariant.0 in
+    merging_done (precedes (key_in K)) (goes_total (key_in K)) (goes_trans (key_in K)) _ _ _ _ _ c.loop-place.invariant.1 (omega arith)
