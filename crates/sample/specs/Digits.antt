@@ -1,5 +1,5 @@
 -- What a byte stands for in a number in base 16. Assumes nothing.
-use Rattle.std.specs.Prelude.{ℕ, ◌+◌, ◌-◌, ◌≤◌, nat_le, cond, ◌&&◌}
+use Rattle.std.specs.Prelude.{ℕ, ◌+◌, ◌-◌, nat_le, cond, ◌&&◌}
 
 -- the value of a digit, '0' to '9' or 'a' to 'f', and 0 of any other byte
 abbrev pub digit_of : ℕ → ℕ

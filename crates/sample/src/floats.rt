@@ -1,8 +1,13 @@
 // Floats from their bits and back.
+ghost use Rattle.std.specs.Prelude.{◌≡◌, ◌%◌, ◌^◌, ◌≤◌};
+ghost use lib.Ieee.{of_bits, binary64};
+
 use std::fmt;
 
 // The float that has these bits; every pattern of a NaN gives the one NaN.
-pub fn float(bits: u64) -> f64 {
+pub fn float(bits: u64) -> f64
+    ensures { bits % 2 ^ 63 ≤ 0x7ff0_0000_0000_0000 → result ≡ of_bits binary64 bits }
+{
     if bits % 0x8000_0000_0000_0000 <= 0x7ff0_0000_0000_0000 {
         return f64::from_bits(bits);
     }

@@ -1,5 +1,6 @@
 // Words, values and lists of values from an input of any length.
 ghost use Rattle.std.specs.Prelude.{◌≡◌, ◌+◌, ◌-◌, ◌*◌, ◌%◌, ◌^◌, ◌<◌, ◌≤◌, [], ◌∷◌, ◌++◌, length, drop, IfSome};
+ghost use lib.Ieee.{of_bits, binary64};
 ghost use Rattle.sample.specs.Digits.{digit_of};
 
 use crate::floats;
@@ -74,6 +75,9 @@ impl From<Word> for u8 {
 }
 
 impl From<Word> for f64 {
+    ghost from_gives = { λ word x.
+        word.number % 2 ^ 63 ≤ 0x7ff0_0000_0000_0000 → x ≡ of_bits binary64 word.number };
+
     fn from(word: Word) -> f64 {
         floats::float(word.number)
     }
