@@ -96,9 +96,7 @@ pub fn other_unit(s: &[u8], at: usize) -> bool
     requires { at + 8 ≤ length s.now }
     ensures { result ≡ other_unit (drop at s.now) }
 {
-    let end = (s[at + 5] == 0) & ((s[at + 6] == 0) & (s[at + 7] == 0));
-    let rest = (s[at + 2] == 0) & ((s[at + 3] == 0) & ((s[at + 4] == 0) & end));
-    !((s[at] == 0x3E) & ((s[at + 1] == 0x40) & rest))
+    s[at..at + 8] != [0x3E, 0x40, 0, 0, 0, 0, 0, 0]
 }
 
 // What is asked for after a type, where just one is in order.
