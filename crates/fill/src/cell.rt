@@ -3,7 +3,6 @@ ghost use Rattle.std.specs.Prelude.{◌≡◌, Bool, ◌||◌, cond, List, ℕ, 
 ghost use Rattle.boundary.specs.declared.Edge.{Edge};
 ghost use Rattle.lists.specs.Lists.{total};
 ghost use Rattle.boundary.specs.Outline.{count, edges};
-ghost use Rattle.accept.specs.declared.Answer.TheVariants.{Refused, Measure};
 ghost use Rattle.accept.specs.declared.Refusal.TheVariants.{LongList};
 ghost use Rattle.clip.specs.Clip.{clip_of};
 ghost use Rattle.clip.specs.Lent.{lines_from, Stage};
@@ -11,11 +10,11 @@ ghost use Rattle.clip.specs.Shortened.{Shortened, StripOf};
 ghost use Rattle.fill.specs.Fill.{low_x_of, high_x_of, low_y_of, high_y_of, clip1, clip2, longer, xdy_of};
 ghost use Rattle.number.specs.Exact.{Doubles};
 ghost use Rattle.boundary.specs.Boxes.{DoubleBox};
-ghost use Rattle.accept.specs.declared.Test.TheVariants.{Passed};
+ghost use Rattle.accept.specs.Refusals.{all_passed};
 ghost use Rattle.fill.specs.Answers.{half_of, fill_tested, filled, filled_outcome};
 
 use crate::{lines, within};
-use accept::{Answer, Refusal};
+use accept::Refusal;
 use boundary::{Bounds, Edge};
 use clip::{HalfPlane, Stored};
 
@@ -137,20 +136,20 @@ fn sum_own(v: &[f64]) -> f64
 }
 
 // What the four clips have left: the fill, or refusal 14.
-fn summed(w: &[f64], half: usize, c: Stored) -> Answer
+fn summed(w: &[f64], half: usize, c: Stored) -> Result<f64, Refusal>
     requires { 8 * half ≤ length w.now }
-    ensures { (long : Bool) (es : List Edge) → Stage half w.now c long es → result ≡ cond long (Refused LongList) (Measure (total xdy_of es)) }
+    ensures { (long : Bool) (es : List Edge) → Stage half w.now c long es → result ≡ cond long (Err LongList) (Ok (total xdy_of es)) }
 {
     let n = c.n;
     if half < n {
-        return Answer::Refused(Refusal::LongList);
+        return Err(Refusal::LongList);
     }
     let second = c.second;
-    Answer::Measure(sum(w, clip::halves::place(half, second), n))
+    Ok(sum(w, clip::halves::place(half, second), n))
 }
 
 // The fill by the four clips, in halves of `half` pieces.
-fn clipped(v: &[f64], c: Bounds, w: &mut [f64], half: usize) -> Answer
+fn clipped(v: &[f64], c: Bounds, w: &mut [f64], half: usize) -> Result<f64, Refusal>
     requires { (count v.now ≤ half) × (8 * half ≤ length w.old) × StripOf (low_x_of c) (high_x_of c) v.now }
     ensures { (result ≡ filled half (edges v.now) c) × (length w.new ≡ length w.old)
         × (drop (8 * half) w.new ≡ drop (8 * half) w.old) }
@@ -163,20 +162,20 @@ fn clipped(v: &[f64], c: Bounds, w: &mut [f64], half: usize) -> Answer
 
 // The fill. An outline wholly inside the cell is summed as it is: no clip would change it, and nothing is
 // written to the halves.
-fn fill_by(v: &[f64], c: Bounds, w: &mut [f64], half: usize) -> Answer
-    requires { (fill_tested v.now c (length w.old) ≡ Passed) × Doubles v.now × DoubleBox c × (half ≡ half_of (length w.old)) }
+fn fill_by(v: &[f64], c: Bounds, w: &mut [f64], half: usize) -> Result<f64, Refusal>
+    requires { (fill_tested v.now c (length w.old) ≡ all_passed) × Doubles v.now × DoubleBox c × (half ≡ half_of (length w.old)) }
     ensures { (result ≡ filled half (edges v.now) c) × (length w.new ≡ length w.old)
         × (drop (8 * half) w.new ≡ drop (8 * half) w.old) }
 {
     if within::is_within(v, c) {
-        return Answer::Measure(sum_own(v));
+        return Ok(sum_own(v));
     }
     clipped(v, c, w, half)
 }
 
 // The fill, in a buffer that is long enough.
-pub fn fill_in(v: &[f64], c: Bounds, w: &mut [f64]) -> Answer
-    requires { (fill_tested v.now c (length w.old) ≡ Passed) × Doubles v.now × DoubleBox c }
+pub fn fill_in(v: &[f64], c: Bounds, w: &mut [f64]) -> Result<f64, Refusal>
+    requires { (fill_tested v.now c (length w.old) ≡ all_passed) × Doubles v.now × DoubleBox c }
     ensures { record { answer = result; lent = w.new } ≡ filled_outcome v.now c w.old }
 {
     let half = w.len() / 8;

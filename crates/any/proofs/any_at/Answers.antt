@@ -1,8 +1,8 @@
 -- `any::any_at` meets its contract. Assumes nothing.
+use Rattle.std.proofs.Common.{Ok}
+use Rattle.accept.specs.Refusals.{Answer}
 use mathlib.Core.Path.{sym, ap, ◌∙◌}
 use mathlib.Core.Bool.{Bool, cond}
-use Rattle.accept.specs.declared.Answer.{Answer}
-use Rattle.accept.specs.declared.Answer.TheVariants.{Count}
 use Rattle.accept.specs.Answers.{Outcome, in_fields}
 use Rattle.index.specs.Buffer.{IndexBuffer}
 use Rattle.set.proofs.AskLaws.{query_passed, query_worked, query_refused}
@@ -11,7 +11,7 @@ use Rattle.any.proofs.any_at.Goals as goal
 
 -- yes is 1, and no is 0
 abbrev told : Bool → Answer
-told b = Count (cond b 1 0)
+told b = Ok (cond b 1 0)
 
 pub any_of-requires : goal.any_of-requires
 any_of-requires c =
