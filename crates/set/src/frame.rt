@@ -23,8 +23,7 @@ pub fn index_in(
 {
     let n = 4 * counts.len();
     put_boxes(v, counts, boxes);
-    let b = &boxes[..];
-    index::building::grow_or_leaf(&b[0..n], corners, links, items);
+    index::building::grow_or_leaf(&boxes[..n], corners, links, items);
 }
 
 // The same, with its own space for N numbers of the boxes.
