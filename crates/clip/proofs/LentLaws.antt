@@ -6,7 +6,8 @@ use mathlib.Core.Bool.{Bool, true, false, cond}
 use Prim.Native.Nat.{ℕ, ◌+◌, ◌-◌, ◌*◌, ◌≤◌, ◌<◌}
 use native.Mathlib.Numerals.{add-one}
 use native.Mathlib.Omega.{arith}
-use lib.ListN.{length, get_or, set, drop, length-append, length-set, length-drop}
+use Rattle.std.proofs.lemmas.List.{get_or-take}
+use lib.ListN.{length, get_or, set, take, drop, length-append, length-set, length-drop}
 use lib.Seq.{get_or-set_same, get_or-set_other, get_or-drop, ext_get_or}
 use lib.Ieee.{Float, nan}
 use Rattle.boundary.specs.declared.Edge.{Edge}
@@ -63,6 +64,23 @@ module _ {to size : ℕ} {w v : List Float} (b : Beside to size w v) where
 
   lines_kept : (from n lo k : ℕ) → disjoint from (4 * n) to size → lo + k ≤ n → lines_from v from lo k ≡ lines_from w from lo k
   lines_kept from n lo k h l = run_same (line_in v from) (line_in w from) lo k (λ i m. line_in_kept from n i h (omega arith))
+
+-- ---- the lines of a part of a list, as they stand in the list
+module _ (w v : List Float) (from k : ℕ) (h : (i : ℕ) → i < 4 * k → get_or v i nan ≡ get_or w (from + i) nan) where
+  part_line : (i : ℕ) → i < k → line_in v 0 i ≡ line_in w from i
+  part_line i l =
+      let at : (d : ℕ) → d < 4 → get_or v (0 + 4 * i + d) nan ≡ get_or w (from + 4 * i + d) nan = λ d m. h (0 + 4 * i + d) (omega arith) ∙ ap (λ (j : ℕ). get_or w j nan) (omega arith) in
+      let z : get_or v (0 + 4 * i) nan ≡ get_or w (from + 4 * i) nan = h (0 + 4 * i) (omega arith) ∙ ap (λ (j : ℕ). get_or w j nan) (omega arith) in
+      rw (z, at 1 (omega arith), at 2 (omega arith), at 3 (omega arith))
+
+  pub part_lines : (i m : ℕ) → i + m ≤ k → lines_from v 0 i m ≡ lines_from w from i m
+  part_lines i m l = run_same (line_in v 0) (line_in w from) i m (λ j q. part_line j (omega arith))
+
+pub first_line : (w : List Float) (i : ℕ) → line_at w (4 * i) ≡ line_in w 0 i
+first_line w i = let e : 4 * i ≡ 0 + 4 * i = omega arith in ap (line_at w) e
+
+pub slice_at : (w : List Float) (from m i : ℕ) → i < m → get_or (take m (drop from w)) i nan ≡ get_or w (from + i) nan
+slice_at w from m i l = get_or-take m (drop from w) i nan l ∙ get_or-drop from w i nan
 
 -- ---- a list of lines grows at its end
 put_line : (w : List Float) (o : ℕ) (e : Edge) → o + 4 ≤ length w → line_at (put_at w o e) o ≡ e

@@ -22,3 +22,5 @@ pub mod GridCuts
 pub mod ShortenedLaws
 -- The edges of an outline between vertices outside one bound of a strip, drawn as one.
 pub mod StripLaws
+-- A list cut into two halves and the rest.
+pub mod HalvesLaws

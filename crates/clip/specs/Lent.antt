@@ -1,5 +1,5 @@
 -- The lines that stand in a lent list, four numbers each, and what is left of the list while they are written. Inner definitions. Definitions only.
-use Rattle.std.specs.Prelude.{◌≡◌, ◌⊎◌, Bool, false, not, ◌||◌, cond, List, ℕ, ◌+◌, ◌*◌, ◌<◌, ◌≤◌, ltb, length, get_or, set, drop, Float}
+use Rattle.std.specs.Prelude.{◌≡◌, ◌⊎◌, Bool, false, not, ◌||◌, cond, List, ℕ, ◌+◌, ◌*◌, ◌/◌, ◌<◌, ◌≤◌, ltb, length, get_or, set, drop, Float}
 use Rattle.std.specs.Float.{nan}
 use Rattle.boundary.specs.declared.Edge.{Edge}
 use Rattle.lists.specs.Lists.{run, any}
@@ -19,6 +19,10 @@ line_in w from i = line_at w (from + 4 * i)
 
 abbrev pub lines_from : List Float → ℕ → ℕ → ℕ → List Edge
 lines_from w from i n = run (line_in w from) i n
+
+-- how many lines a list of numbers has room for
+abbrev pub room_of : List Float → ℕ
+room_of w = length w / 4
 
 -- the list with a line stored at o
 abbrev pub put_at : List Float → ℕ → Edge → List Float
