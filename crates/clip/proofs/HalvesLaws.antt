@@ -1,5 +1,5 @@
 -- A list that is cut into two halves and the rest: the lines of a half as they stand in the whole, and the whole after lines are written to a half. Assumes nothing.
-use Rattle.std.proofs.Common.{◌≡◌, ℕ, true, false, not, ◌+◌, ◌-◌, ◌*◌, ◌/◌, ◌<◌, ◌≤◌, List, ◌++◌, length, get_or, take, drop, sym, ap, ◌∙◌, append_assoc, length-append, length-drop, arith}
+use Rattle.std.proofs.Common.{◌≡◌, ℕ, Bool, true, false, not, ◌+◌, ◌-◌, ◌*◌, ◌/◌, ◌<◌, ◌≤◌, List, ◌++◌, length, get_or, take, drop, sym, ap, ◌∙◌, append_assoc, length-append, length-drop, arith}
 use Rattle.std.proofs.lemmas.List.{get_or-take, get_or-append-add, length-take-le}
 use lib.ListN.{get_or-append}
 use lib.Seq.{drop_at}
@@ -11,8 +11,8 @@ use Rattle.clip.specs.declared.FirstPass.{FirstPass}
 use Rattle.clip.specs.declared.FirstPass.TheVariants.{StartsAt, AllKept, NoneKept}
 use Rattle.clip.specs.Clip.{parts, clip_of}
 use Rattle.clip.specs.Passes.{first_pass_of, traced}
-use Rattle.clip.specs.Lent.{room_of, line_in, lines_from, Holds}
-use Rattle.clip.proofs.StageLaws.{all_parts_kept, none_kept_lem, last_out, starts_below, some_dropped, clip_traced}
+use Rattle.clip.specs.Lent.{room_of, line_in, lines_from, place_of, Holds}
+use Rattle.clip.proofs.StageLaws.{place_le, all_parts_kept, none_kept_lem, last_out, starts_below, some_dropped, clip_traced}
 use Rattle.clip.proofs.LentLaws.{part_lines, slice_at}
 
 front_at : (us vs : List Float) (i : ℕ) → i < length us → get_or us i nan ≡ get_or (us ++ vs) (0 + i) nan
@@ -55,6 +55,14 @@ module _ (half : ℕ) (w xs rest ys zs : List Float) (e : w ≡ xs ++ rest) (f :
     list = λ l. sym (part_lines (xs ++ (vs ++ zs)) vs (4 * half) half (λ j k. second_at xs vs zs (4 * half) j p (omega arith)) 0 m (omega arith)) ∙ h.list (omega arith);
   }
 
+-- a list of n lines in a half stands within the whole
+pub half_fits : (w : List Float) (half n from : ℕ) (b : Bool) → 8 * half ≤ length w → n ≤ half → from ≡ place_of half b → from + 4 * n ≤ length w
+half_fits w half n from b h l e = omega (arith, e, place_le half b)
+
+-- lines written to the front of a list
+pub front_written : (out rest : List Float) (n : ℕ) → 4 * n ≤ length out → lines_from (out ++ rest) 0 0 n ≡ lines_from out 0 0 n
+front_written out rest n h = sym (part_lines (out ++ rest) out 0 n (λ j m. front_at out rest j (omega arith)) 0 n (omega arith))
+
 -- ---- the n lines that stand from `from` on, as a part of the list
 module _ (w : List Float) (from n : ℕ) (l : from + 4 * n ≤ length w) where
   abbrev pub part : List Float
@@ -66,6 +74,9 @@ module _ (w : List Float) (from n : ℕ) (l : from + 4 * n ≤ length w) where
   pub lines_part : (i m : ℕ) → i + m ≤ n → lines_from part 0 i m ≡ lines_from w from i m
   lines_part i m k = part_lines w part from n (λ j h. slice_at w from (from + 4 * n - from) j (omega arith)) i m k
 
+  pub same_lines : lines_from part 0 0 (room_of part) ≡ lines_from w from 0 n
+  same_lines = rw room_part (lines_part 0 n (omega arith))
+
   -- what the first pass says of them
   module _ (s : HalfPlane) (some : 1 ≤ n) where
     abbrev found : FirstPass
@@ -73,9 +84,6 @@ module _ (w : List Float) (from n : ℕ) (l : from + 4 * n ≤ length w) where
 
     some_part : 1 ≤ room_of part
     some_part = rw room_part some
-
-    same_lines : lines_from part 0 0 (room_of part) ≡ lines_from w from 0 n
-    same_lines = rw room_part (lines_part 0 n (omega arith))
 
     pub found_all : found ≡ AllKept → any (λ p. not p.kept) (parts s (lines_from w from 0 n)) ≡ false
     found_all e = rw same_lines at (all_parts_kept s (line_in part 0) (room_of part) some_part e)

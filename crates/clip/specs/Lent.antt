@@ -28,15 +28,6 @@ room_of w = length w / 4
 abbrev pub put_at : List Float → ℕ → Edge → List Float
 put_at w o e = set (set (set (set w o e.a.x) (o + 1) e.a.y) (o + 2) e.b.x) (o + 3) e.b.y
 
--- two ranges share no place
-abbrev pub disjoint : ℕ → ℕ → ℕ → ℕ → Type 0
-disjoint o m to size = (o + m ≤ to) ⊎ (to + size ≤ o)
-
--- ---- w has become v, and nothing but the `size` numbers from `to` on has changed
-pub record Beside (to size : ℕ) (w v : List Float) : Type 0 where
-  pub same : length v ≡ length w
-  pub keeps : (i : ℕ) → (i < to) ⊎ (to + size ≤ i) → get_or v i nan ≡ get_or w i nan
-
 -- ---- es has n lines; where that is no more than `room`, they stand in w from `to` on
 pub record Holds (to room : ℕ) (w : List Float) (n : ℕ) (es : List Edge) : Type 0 where
   pub count : length es ≡ n

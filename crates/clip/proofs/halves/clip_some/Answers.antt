@@ -2,20 +2,17 @@
 use Rattle.std.proofs.Common.{◌≡◌, ◌+◌, ◌*◌, ◌≤◌, ℕ, Bool, List, length, refl, sym, ◌∙◌, true≢false, arith}
 use lib.Ieee.{Float}
 use Rattle.clip.specs.Lent.{place_of}
-use Rattle.clip.proofs.HalvesLaws.{found_all, found_none, found_out, found_below, found_dropped, found_traced}
-use Rattle.clip.proofs.StageLaws.{place_le, all_inside, all_outside, some_inside, short}
+use Rattle.clip.proofs.HalvesLaws.{half_fits, found_all, found_none, found_out, found_below, found_dropped, found_traced}
+use Rattle.clip.proofs.StageLaws.{all_inside, all_outside, some_inside, short}
 use Rattle.clip.proofs.halves.clip_some.Goals as goal
 
-fits : (w : List Float) (half n from : ℕ) (b : Bool) → 8 * half ≤ length w → n ≤ half → from ≡ place_of half b → from + 4 * n ≤ length w
-fits w half n from b h l e = omega (arith, e, place_le half b)
-
 pub slice_bounds-first_pass-end : goal.slice_bounds-first_pass-end
-slice_bounds-first_pass-end c = fits c.args.w.now c.args.half c.args.c.n _ c.args.c.second c.requires.0 c.requires.2 c.place-from.ensures
+slice_bounds-first_pass-end c = half_fits c.args.w.now c.args.half c.args.c.n _ c.args.c.second c.requires.0 c.requires.2 c.place-from.ensures
 
 pub returns-in-AllKept : goal.returns-in-AllKept
 returns-in-AllKept c =
     let a = c.args in
-    let l = fits a.w.now a.half a.c.n _ a.c.second c.requires.0 c.requires.2 c.place-from.ensures in
+    let l = half_fits a.w.now a.half a.c.n _ a.c.second c.requires.0 c.requires.2 c.place-from.ensures in
     let d = rw c.place-from.ensures at (found_all a.w.now c.place-from.result a.c.n l a.s c.requires.1 (sym c.first_pass.ensures ∙ c.in-AllKept.is)) in
     record {
       same = refl;
@@ -28,7 +25,7 @@ pub returns-in-NoneKept : goal.returns-in-NoneKept
 returns-in-NoneKept c =
     let a = c.args in
     let e = sym c.first_pass.ensures ∙ c.in-NoneKept.is in
-    let l = fits a.w.now a.half a.c.n _ a.c.second c.requires.0 c.requires.2 c.place-from.ensures in
+    let l = half_fits a.w.now a.half a.c.n _ a.c.second c.requires.0 c.requires.2 c.place-from.ensures in
     let d = rw c.place-from.ensures at (found_out a.w.now c.place-from.result a.c.n l a.s c.requires.1 e) in
     let k = rw c.place-from.ensures at (found_none a.w.now c.place-from.result a.c.n l a.s c.requires.1 e) in
     record {
@@ -41,14 +38,14 @@ returns-in-NoneKept c =
 pub retrace-requires : goal.retrace-requires
 retrace-requires c =
     let a = c.args in
-    let l = fits a.w.now a.half a.c.n _ a.c.second c.requires.0 c.requires.2 c.place-from.ensures in
+    let l = half_fits a.w.now a.half a.c.n _ a.c.second c.requires.0 c.requires.2 c.place-from.ensures in
     (c.requires.0, c.requires.2, found_below a.w.now c.place-from.result a.c.n l a.s c.requires.1 _ (sym c.first_pass.ensures ∙ c.in-StartsAt.is))
 
 pub returns-in-StartsAt : goal.returns-in-StartsAt
 returns-in-StartsAt c =
     let a = c.args in
     let e = sym c.first_pass.ensures ∙ c.in-StartsAt.is in
-    let l = fits a.w.now a.half a.c.n _ a.c.second c.requires.0 c.requires.2 c.place-from.ensures in
+    let l = half_fits a.w.now a.half a.c.n _ a.c.second c.requires.0 c.requires.2 c.place-from.ensures in
     let d = rw c.place-from.ensures at (found_dropped a.w.now c.place-from.result a.c.n l a.s c.requires.1 _ e) in
     let t = rw (← (rw c.place-from.ensures at (found_traced a.w.now c.place-from.result a.c.n l a.s c.requires.1 _ e))) at c.retrace.ensures.1 in
     record {
