@@ -17,7 +17,7 @@ use Rattle.clip.specs.declared.FirstPass.TheVariants.{StartsAt, AllKept, NoneKep
 use Rattle.clip.specs.declared.Stored.{Stored}
 use Rattle.clip.specs.Clip.{parts, last_kept, clip_of}
 use Rattle.clip.specs.Passes.{marks_of, start_line, first_pass_of, traced}
-use Rattle.clip.specs.Lent.{disjoint, Holds, place_of, Stage}
+use Rattle.clip.specs.Lent.{Holds, place_of, Stage}
 use Rattle.clip.proofs.FirstPassLaws.{start_le, start_told, all_told, none_told}
 use Rattle.clip.proofs.PassLaws.{no_entry_out, no_entry_kept, first_entry, traced_rotated, last_line, last_dropped, clip_all, clip_some, clip_none}
 
@@ -25,10 +25,6 @@ use Rattle.clip.proofs.PassLaws.{no_entry_out, no_entry_kept, first_entry, trace
 pub place_le : (half : ℕ) (b : Bool) → place_of half b + 4 * half ≤ 8 * half
 place_le half true = omega arith
 place_le half false = omega arith
-
-pub place_apart : (half n : ℕ) (b : Bool) → n ≤ half → disjoint (place_of half b) (4 * n) (place_of half (not b)) (4 * half)
-place_apart half n true l = inr (omega arith)
-place_apart half n false l = inl (omega arith)
 
 -- the list that goes into the first clip
 pub begins : {half : ℕ} {w : List Float} {n : ℕ} {es : List Edge} → Holds 0 half w n es → n ≤ half → Stage half w (record { second = false; n = n }) false es

@@ -5,7 +5,7 @@ ghost use Rattle.lists.specs.Lists.{total};
 ghost use Rattle.boundary.specs.Outline.{count, edges};
 ghost use Rattle.accept.specs.declared.Refusal.TheVariants.{LongList};
 ghost use Rattle.clip.specs.Clip.{clip_of};
-ghost use Rattle.clip.specs.Lent.{lines_from, Stage};
+ghost use Rattle.clip.specs.Lent.{room_of, lines_from, Stage};
 ghost use Rattle.clip.specs.Shortened.{Shortened, StripOf};
 ghost use Rattle.fill.specs.Fill.{side_of, low_x_of, high_x_of, low_y_of, high_y_of, clip1, clip2, longer, xdy_of};
 ghost use Rattle.number.specs.Exact.{Doubles};
@@ -84,14 +84,13 @@ fn x_dy(e: Edge) -> f64
     (e.a.x + e.b.x) / 2.0 * (e.b.y - e.a.y)
 }
 
-// The sum of x dy over the n lines that stand from `from` on.
-fn sum(w: &[f64], from: usize, n: usize) -> f64
-    requires { from + 4 * n ≤ length w.now }
-    ensures { result ≡ total xdy_of (lines_from w.now from 0 n) }
+// The sum of x dy over lines.
+fn sum(lines: &[f64]) -> f64
+    ensures { result ≡ total xdy_of (lines_from lines.now 0 0 (room_of lines.now)) }
 {
     let mut sum = 0.0;
-    for i in 0..n {
-        sum += x_dy(clip::scan::line_at(w, from + 4 * i));
+    for i in 0..lines.len() / 4 {
+        sum += x_dy(clip::scan::line_at(lines, 4 * i));
     }
     sum
 }
@@ -122,8 +121,8 @@ fn summed(w: &[f64], half: usize, c: Stored) -> Result<f64, Refusal>
     if half < n {
         return Err(Refusal::LongList);
     }
-    let second = c.second;
-    Ok(sum(w, clip::halves::place(half, second), n))
+    let from = clip::halves::place(half, c.second);
+    Ok(sum(&w[from..from + 4 * n]))
 }
 
 // The fill by the four clips, in halves of `half` pieces.
@@ -132,7 +131,8 @@ fn clipped(v: &[f64], c: Bounds, w: &mut [f64], half: usize) -> Result<f64, Refu
     ensures { (result ≡ filled half (edges v.now) c) × (length w.new ≡ length w.old)
         × (drop (8 * half) w.new ≡ drop (8 * half) w.old) }
 {
-    let k = lines::write_chords(v, side(c, false, true), side(c, false, false), w);
+    let low = side(c, false, true);
+    let k = lines::write_chords(v, low, side(c, false, false), &mut w[..4 * half]);
     let b = clip_x(w, half, k.n, k.beyond, c);
     let last = clip_y(w, half, b, c);
     summed(w, half, last)

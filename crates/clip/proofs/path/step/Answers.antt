@@ -5,7 +5,6 @@ use Rattle.boundary.specs.declared.Edge.{Edge}
 use Rattle.clip.specs.declared.HalfPlane.{HalfPlane}
 use Rattle.clip.specs.declared.Marks.{Marks}
 use Rattle.clip.specs.Passes.{marks_of, before_cut, after_cut, first_part, last_part, Path, followed, step_of}
-use Rattle.clip.proofs.LentLaws.{then}
 use Rattle.clip.proofs.path.step.Goals as goal
 
 -- the parts of a line that is not cut, and of one that is
@@ -22,14 +21,11 @@ pub returns-in-None : goal.returns-in-None
 returns-in-None c =
     let m = c.marked-m in
     let a = c.args in
-    (omega (arith, c.follow.ensures.0), c.follow.ensures.1, λ t h. rw (uncut_step a.side t a.e m.result m.ensures c.in-None.is) (c.follow.ensures.2 t h))
-
-pub follow-requires-in-Some : goal.follow-requires-in-Some
-follow-requires-in-Some c =
-    (rw c.follow-a.ensures.1.same c.requires.0, omega (arith, c.follow-a.ensures.0, c.requires.1))
+    (omega (arith, c.follow.ensures.0), λ t h. rw (uncut_step a.side t a.e m.result m.ensures c.in-None.is) (c.follow.ensures.1 t h))
 
 pub returns-in-Some : goal.returns-in-Some
 returns-in-Some c =
     let m = c.marked-m in
     let a = c.args in
-    (omega (arith, c.follow-in-Some.ensures.0, c.follow-a.ensures.0), then c.follow-a.ensures.1 c.follow-in-Some.ensures.1, λ t h. rw (cut_step a.side t a.e m.result c.in-Some.u m.ensures c.in-Some.is, ← c.second.ensures, ← c.first.ensures) (c.follow-in-Some.ensures.2 _ (c.follow-a.ensures.2 t h)))
+    let next = rw c.follow-a.auto.out at c.follow-in-Some.ensures.1 in
+    (omega (arith, c.follow-in-Some.ensures.0, c.follow-a.ensures.0), λ t h. rw (cut_step a.side t a.e m.result c.in-Some.u m.ensures c.in-Some.is, ← c.second.ensures, ← c.first.ensures) (next _ (c.follow-a.ensures.1 t h)))

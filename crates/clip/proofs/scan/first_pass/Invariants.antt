@@ -6,4 +6,4 @@ use Rattle.clip.specs.Lent.{line_in, lines_from}
 use Rattle.clip.proofs.scan.first_pass.Given as goal
 
 abbrev pub invariant-loop-i : goal.invariant-loop-i
-invariant-loop-i l = l.i + start_line l.s l.before (lines_from l.w l.from l.i (l.n - l.i)) ≡ start_line l.s (marks_of l.s (line_in l.w l.from (l.n - 1))).end_kept (lines_from l.w l.from 0 l.n)
+invariant-loop-i l = l.i + start_line l.s l.before (lines_from l.lines 0 l.i (l.n - l.i)) ≡ start_line l.s (marks_of l.s (line_in l.lines 0 (l.n - 1))).end_kept (lines_from l.lines 0 0 l.n)

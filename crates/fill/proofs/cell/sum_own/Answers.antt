@@ -10,7 +10,6 @@ use Rattle.boundary.proofs.OutlineLaws.{next_edge, last_edge}
 use Rattle.lists.specs.Lists.{run, fold, total}
 use Rattle.lists.proofs.FoldLaws.{fold_run_next, fold_run_end}
 use Rattle.fill.specs.Fill.{xdy_of}
-use borrow.Author.Rules.{rules}
 use Rattle.fill.proofs.cell.sum_own.Goals as goal
 
 abbrev summed : Float → Edge → Float
