@@ -1,9 +1,12 @@
-// A merge sort of item numbers by a key, with lent working space.
+// Item numbers sorted by a key, and parted by a pivot.
 #![tactic(auto)]
 
-ghost use Rattle.std.specs.Prelude.{◌≡◌, not, ◌+◌, ◌≤◌, length, take, drop};
-ghost use Rattle.sorts.specs.Sort.{sort, merge, from_first, parted_by, Dealt};
+ghost use Rattle.std.specs.Prelude.{◌≡◌, not, ◌≤◌, length};
+ghost use Rattle.std.specs.Ordering.{is_lt};
+ghost use Rattle.sorts.specs.Sort.{sort, parted_by, Dealt};
 ghost use Rattle.sorts.specs.Keys.{total_less, precedes_by, precedes, ahead, key_in};
+
+use std::cmp::Ordering;
 
 // The key of item i, NaN past the end.
 pub fn key(keys: &[f64], i: u32) -> f64
@@ -48,61 +51,25 @@ fn before(keys: &[f64], a: u32, b: u32) -> bool
     tied(x, y, a, b)
 }
 
-// Whether the next member comes from a, at i, rather than from b, at j.
-fn from_first(keys: &[f64], a: &[u32], i: usize, b: &[u32], j: usize) -> bool
-    ensures { result ≡ from_first (precedes (key_in keys.now)) a.now i b.now j }
+// How a stands to b: by key, then by number.
+fn compared(keys: &[f64], a: u32, b: u32) -> Ordering
+    ensures { is_lt result ≡ not (precedes (key_in keys.now) b a) }
 {
-    if i < a.len() {
-        if j < b.len() {
-            return before(keys, a[i], b[j]);
-        }
-        return true;
+    if !before(keys, b, a) {
+        return Ordering::Less;
     }
-    false
-}
-
-// s becomes a and b, merged.
-fn merged(keys: &[f64], a: &[u32], b: &[u32], s: &mut [u32])
-    requires { length s.old ≡ length a.now + length b.now }
-    ensures { s.new ≡ merge (precedes (key_in keys.now)) a.now b.now }
-{
-    let mut i = 0;
-    let mut j = 0;
-    for place in s.iter_mut() {
-        if from_first(keys, a, i, b, j) {
-            *place = a[i];
-            i += 1;
-        } else {
-            *place = b[j];
-            j += 1;
-        }
+    if a == b {
+        Ordering::Equal
+    } else {
+        Ordering::Greater
     }
 }
 
-// s becomes its first m and its rest, merged; t is working space, at least as long.
-fn joined(keys: &[f64], s: &mut [u32], m: usize, t: &mut [u32])
-    requires { (m ≤ length s.old) × (length s.old ≤ length t.old) }
-    ensures { s.new ≡ merge (precedes (key_in keys.now)) (take m s.old) (drop m s.old) }
-{
-    let n = s.len();
-    t[..n].copy_from_slice(s);
-    let w = &t[..];
-    merged(keys, &w[..m], &w[m..n], s);
-}
-
-// s in order; t is working space, at least as long.
-pub fn sorted(keys: &[f64], s: &mut [u32], t: &mut [u32])
-    requires { length s.old ≤ length t.old }
+// s in order.
+pub fn sorted(keys: &[f64], s: &mut [u32])
     ensures { s.new ≡ sort (precedes (key_in keys.now)) s.old }
 {
-    let n = s.len();
-    if n < 2 {
-        return;
-    }
-    let m = n / 2;
-    sorted(keys, &mut s[..m], t);
-    sorted(keys, &mut s[m..], t);
-    joined(keys, s, m, t);
+    s.sort_unstable_by(|a, b| compared(keys, *a, *b));
 }
 
 // Parts a list: the number goes before it, where its key does too.

@@ -3,7 +3,7 @@
 
 ghost use Rattle.std.specs.Prelude.{◌≡◌, ◌/◌, ◌≤◌, ◌^◌, leb, length};
 ghost use Rattle.boundary.specs.Boxes.{hull, stretched};
-ghost use Rattle.sorts.specs.Sort.{sort, Sorted, halves};
+ghost use Rattle.sorts.specs.Sort.{Sorted, halves};
 ghost use Rattle.sorts.specs.Keys.{precedes, key_in};
 ghost use Rattle.boxes.specs.BoxLists.{box_at, point_in};
 ghost use Rattle.tree.specs.Tree.{hull_of, spread_of, along_y, centre_along};
@@ -58,23 +58,14 @@ pub fn spans_of(entries: Entries, list: &[u32]) -> Spans
     s
 }
 
-// The items in ascending order.
-fn ascend(list: &mut [u32], work: &mut [u32])
-    requires { length list.old ≤ length work.old }
-    ensures { list.new ≡ sort leb list.old }
-{
-    let none = [0.0; 0];
-    sorts::sorted(&none, list, work);
-}
-
 // The first m items in the order of the keys, ascending by number, then the others, ascending.
-fn halve_sorted(keys: &[f64], list: &mut [u32], work: &mut [u32], m: usize)
-    requires { (m ≤ length list.old) × (length list.old ≤ length work.old) }
+fn halve_sorted(keys: &[f64], list: &mut [u32], m: usize)
+    requires { m ≤ length list.old }
     ensures { list.new ≡ halves (precedes (key_in keys.now)) m list.old }
 {
-    sorts::sorted(keys, list, work);
-    ascend(&mut list[..m], work);
-    ascend(&mut list[m..], work);
+    sorts::sorted(keys, list);
+    list[..m].sort_unstable();
+    list[m..].sort_unstable();
 }
 
 // The same at half the count, where the items ascend by number and their keys lie in the range. A pivot that
@@ -89,7 +80,7 @@ fn halve(keys: &[f64], range: KeyRange, list: &mut [u32], work: &mut [u32])
     if k == m {
         return;
     }
-    halve_sorted(keys, list, work, m);
+    halve_sorted(keys, list, m);
 }
 
 // The items split along the axis on which their centres, whose box is b, spread wider.
