@@ -1,6 +1,6 @@
--- `search::gap` meets its contract. Assumes nothing.
+-- `search::entry_for` meets its contract. Assumes nothing.
 use Rattle.boundary.specs.Boxes.{gap_squares_of}
-use Rattle.search.proofs.gap.Goals as goal
+use Rattle.search.proofs.entry_for.Goals as goal
 
 pub returns : goal.returns
 unfolding gap_squares_of
