@@ -15,7 +15,8 @@ ghost use Rattle.nearest.specs.Answers.{nearest_outcome};
 use accept::Refusal;
 use boundary::Point;
 use index::building;
-use search::Best;
+use nodes::IndexView;
+use search::{Best, SetView};
 use set::refusals::query_tested;
 use set::{frame, outlines};
 
@@ -48,7 +49,18 @@ fn found_in(
     boundary::all_held(v);
     outlines::put_starts(counts, starts);
     frame::index_in(v, counts, boxes, corners, links, items);
-    let best = search::search(v, counts, starts, boxes, p, corners, links, items);
+    let set = SetView {
+        vertices: v,
+        counts,
+        starts,
+        boxes,
+    };
+    let index = IndexView {
+        corners,
+        links,
+        items,
+    };
+    let best = search::search(&set, &index, p);
     building::clear(corners, links, items);
     best
 }

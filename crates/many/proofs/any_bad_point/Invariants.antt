@@ -13,7 +13,4 @@ abbrev step : Bool → Point → Bool
 step f p = f || not (point_in_field p)
 
 abbrev pub invariant-loop-i : goal.invariant-loop-i
-invariant-loop-i l = (l.i ≤ count l.ps) × (fold step l.found (run (vertex_at l.ps) l.i (count l.ps - l.i)) ≡ any_bad_point l.ps)
-
-abbrev pub decreases-loop-i : goal.decreases-loop-i
-decreases-loop-i l = count l.ps - l.i
+invariant-loop-i l = fold step l.found (run (vertex_at l.ps) l.i (count l.ps - l.i)) ≡ any_bad_point l.ps
