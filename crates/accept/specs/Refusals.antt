@@ -1,5 +1,5 @@
 -- A test after those before it, what stands given a test, and the tests of an outline in document 01's order, each over the whole outline before the next. Definitions only.
-use Rattle.std.specs.Prelude.{Bool, not, cond, List, ℕ, ◌%◌, eqb, ltb, length, Float}
+use Rattle.std.specs.Prelude.{Bool, not, cond, List, ℕ, ◌%◌, Result, Ok, Err, eqb, ltb, length, Float}
 use Rattle.std.specs.Float.Ieee.{neg, lt, le, eq}
 use Rattle.std.specs.Float.Ieee.Scale.{finite}
 use Rattle.number.specs.Exact.{zeroᶠ}
@@ -8,8 +8,6 @@ use Rattle.lists.specs.Lists.{any}
 use Rattle.boundary.specs.Outline.{count, same_point, edges}
 use Rattle.accept.specs.declared.Refusal.{Refusal}
 use Rattle.accept.specs.declared.Refusal.TheVariants.{OddCount, BadCounts, TooFew, TooMany, NotFinite, OutsideField, EqualNeighbours, ZeroArea, NegativeArea, BadPoint, BadBox, BadEllipse, ShortBuffer, LongList, BadPointCount, BadRecord, OtherUnit, BeyondReach}
-use Rattle.accept.specs.declared.Test.{Test}
-use Rattle.accept.specs.declared.Test.TheVariants.{Passed, Failed}
 use Rattle.accept.specs.Area.{area_of}
 
 -- the paper's number
@@ -33,18 +31,29 @@ number BadRecord = 16
 number OtherUnit = 17
 number BeyondReach = 18
 
+-- ---- an answer, or why the call is turned away
+abbrev pub Answer : Type 0 → Type 0
+Answer A = Result A Refusal
+
+-- what the tests say: nothing more, where they are passed
+abbrev pub Test : Type 0
+Test = Answer (Unit {0})
+
+abbrev pub all_passed : Test
+all_passed = Ok tt
+
 -- ---- a test after those before it
 -- what t says; where it says that those before are passed, the test that refuses with r when `fails` holds
 infixl 20 ◌refusing◌when◌
 unfoldable pub ◌refusing◌when◌ : Test → Refusal → Bool → Test
-Passed refusing r when fails = cond fails (Failed r) Passed
-(Failed q) refusing r when fails = Failed q
+(Ok _) refusing r when fails = cond fails (Err r) all_passed
+(Err q) refusing r when fails = Err q
 
 -- ---- given a test
 -- a where the tests are passed, and what `refused` gives of the refusal where they are not
 unfoldable pub given : {A : Type 0} → Test → A → (Refusal → A) → A
-given Passed a refused = a
-given (Failed r) a refused = refused r
+given (Ok _) a refused = a
+given (Err r) a refused = refused r
 
 -- ---- what an outline does not pass
 -- 5: a number is not finite
@@ -72,7 +81,7 @@ negative_area v = lt (area_of (edges v)) zeroᶠ
 unfoldable pub count_tested : List Float → Test
 unfolding ◌refusing◌when◌
 count_tested v =
-    Passed refusing OddCount when eqb (length v % 2) 1
+    all_passed refusing OddCount when eqb (length v % 2) 1
     refusing TooFew when ltb (count v) 3
     refusing TooMany when ltb 4096 (count v)
 
@@ -80,7 +89,7 @@ count_tested v =
 unfoldable pub values_tested : List Float → Test
 unfolding ◌refusing◌when◌ any neg le eq edges area_of
 values_tested v =
-    Passed refusing NotFinite when not_finite v
+    all_passed refusing NotFinite when not_finite v
     refusing OutsideField when outside_field v
     refusing EqualNeighbours when equal_neighbours v
     refusing ZeroArea when zero_area v
@@ -88,7 +97,7 @@ values_tested v =
 -- 1 and 3 to 8
 unfoldable pub shape_tested : List Float → Test
 unfolding given count_tested values_tested
-shape_tested v = given (count_tested v) (values_tested v) Failed
+shape_tested v = given (count_tested v) (values_tested v) Err
 
 -- and 9: those of a query's outline
 unfoldable pub outline_tested : List Float → Test

@@ -1,103 +1,67 @@
 // What an answer puts into the fields of a call: a refusal gives its number, and
 // zeros.
 ghost use Rattle.std.specs.Prelude.{◌≡◌};
-ghost use Rattle.accept.specs.Answers.{no_count, count_fields, no_measure, measure_fields, no_box, box_fields, no_distance, distance_fields};
+ghost use Rattle.number.specs.Exact.{zeroᶠ};
+ghost use Rattle.boundary.specs.Boxes.{cell_of};
+ghost use Rattle.accept.specs.Answers.{distance_of, fields_of};
 
-use crate::{Answer, BoxFields, CountFields, DistanceFields, MeasureFields, refusals};
+use crate::Refusal;
 use boundary::{Bounds, Distance, Point};
 
-fn no_count(number: u32) -> CountFields
-    ensures { result ≡ no_count number }
-{
-    CountFields { number, count: 0 }
+// What may be answered: it has zeros, which a refused call puts into its fields.
+pub trait Zeros {
+    ghost zeros: { Self };
+
+    fn zeros() -> Self
+        ensures { result ≡ zeros };
 }
 
-// A count, a flag or a location.
-pub fn count_fields(a: Answer) -> CountFields
-    ensures { result ≡ count_fields a }
-{
-    match a {
-        Answer::Refused(r) => no_count(refusals::number_of(r)),
-        Answer::Count(n) => CountFields {
-            number: 0,
-            count: n,
-        },
-        Answer::Measure(_) => no_count(0),
-        Answer::Box(_) => no_count(0),
-        Answer::DistanceWith(_) => no_count(0),
+// A count or a location.
+impl Zeros for u32 {
+    ghost zeros = { 0 };
+
+    fn zeros() -> u32 {
+        0
     }
 }
 
-fn no_measure(number: u32) -> MeasureFields
-    ensures { result ≡ no_measure number }
-{
-    MeasureFields {
-        number,
-        measure: 0.0,
+impl Zeros for f64 {
+    ghost zeros = { zeroᶠ };
+
+    fn zeros() -> f64 {
+        0.0
     }
 }
 
-pub fn measure_fields(a: Answer) -> MeasureFields
-    ensures { result ≡ measure_fields a }
-{
-    match a {
-        Answer::Refused(r) => no_measure(refusals::number_of(r)),
-        Answer::Count(_) => no_measure(0),
-        Answer::Measure(x) => MeasureFields {
-            number: 0,
-            measure: x,
-        },
-        Answer::Box(_) => no_measure(0),
-        Answer::DistanceWith(_) => no_measure(0),
+impl Zeros for Bounds {
+    ghost zeros = { cell_of zeroᶠ zeroᶠ zeroᶠ zeroᶠ };
+
+    fn zeros() -> Bounds {
+        let origin = Point { x: 0.0, y: 0.0 };
+        Bounds {
+            min: origin,
+            max: origin,
+        }
     }
 }
 
-fn no_box(number: u32) -> BoxFields
-    ensures { result ≡ no_box number }
-{
-    let bounds = Bounds {
-        min: Point { x: 0.0, y: 0.0 },
-        max: Point { x: 0.0, y: 0.0 },
-    };
-    BoxFields { number, bounds }
-}
+impl Zeros for Distance {
+    ghost zeros = { distance_of zeroᶠ zeroᶠ zeroᶠ };
 
-pub fn box_fields(a: Answer) -> BoxFields
-    ensures { result ≡ box_fields a }
-{
-    match a {
-        Answer::Refused(r) => no_box(refusals::number_of(r)),
-        Answer::Count(_) => no_box(0),
-        Answer::Measure(_) => no_box(0),
-        Answer::Box(b) => BoxFields {
-            number: 0,
-            bounds: b,
-        },
-        Answer::DistanceWith(_) => no_box(0),
+    fn zeros() -> Distance {
+        Distance {
+            d: 0.0,
+            v: Point { x: 0.0, y: 0.0 },
+        }
     }
 }
 
-fn no_distance(number: u32) -> DistanceFields
-    ensures { result ≡ no_distance number }
+// The fields of an answer: what the call returns, and what it puts into the fields that it is lent.
+pub fn fields<T: Zeros>(answer: Result<T, Refusal>) -> (u32, T)
+    ensures { record { number = result.0; value = result.1 } ≡ fields_of T.zeros answer }
 {
-    let distance = Distance {
-        d: 0.0,
-        v: Point { x: 0.0, y: 0.0 },
-    };
-    DistanceFields { number, distance }
-}
-
-pub fn distance_fields(a: Answer) -> DistanceFields
-    ensures { result ≡ distance_fields a }
-{
-    match a {
-        Answer::Refused(r) => no_distance(refusals::number_of(r)),
-        Answer::Count(_) => no_distance(0),
-        Answer::Measure(_) => no_distance(0),
-        Answer::Box(_) => no_distance(0),
-        Answer::DistanceWith(d) => DistanceFields {
-            number: 0,
-            distance: d,
-        },
+    match answer {
+        Ok(value) => (0, value),
+        Err(r) => (u32::from(r), T::zeros()),
     }
 }

@@ -8,40 +8,40 @@ ghost use Rattle.boundary.specs.Boxes.{is_in_field, point_in_field, box_fits};
 ghost use Rattle.lists.specs.Lists.{any};
 ghost use Rattle.boundary.specs.Outline.{same_point, edges};
 ghost use Rattle.accept.specs.declared.Refusal.TheVariants.{NegativeArea};
-ghost use Rattle.accept.specs.declared.Test.{Test};
 ghost use Rattle.accept.specs.Area.{shoelace_term, two, area_of};
-ghost use Rattle.accept.specs.declared.Verdict.TheVariants.{Area, TurnedAway};
-ghost use Rattle.accept.specs.Refusals.{◌refusing◌when◌, given, number, negative_area, equal_neighbours, values_tested, shape_tested, outline_tested};
+ghost use Rattle.accept.specs.Refusals.{Test, all_passed, ◌refusing◌when◌, given, number, negative_area, equal_neighbours, values_tested, shape_tested, outline_tested};
 ghost use Rattle.accept.specs.Verdicts.{edges_verdict, test_of};
 
-use crate::{Refusal, Test, Verdict};
+use crate::Refusal;
 use boundary::{Bounds, Edge, Point, same_point};
 
 const LIMIT: f64 = 1048576.0;
 
 // The paper's number of a refusal.
-pub fn number_of(r: Refusal) -> u32
-    ensures { result ≡ number r }
-{
-    match r {
-        Refusal::OddCount => 1,
-        Refusal::BadCounts => 2,
-        Refusal::TooFew => 3,
-        Refusal::TooMany => 4,
-        Refusal::NotFinite => 5,
-        Refusal::OutsideField => 6,
-        Refusal::EqualNeighbours => 7,
-        Refusal::ZeroArea => 8,
-        Refusal::NegativeArea => 9,
-        Refusal::BadPoint => 10,
-        Refusal::BadBox => 11,
-        Refusal::BadEllipse => 12,
-        Refusal::ShortBuffer => 13,
-        Refusal::LongList => 14,
-        Refusal::BadPointCount => 15,
-        Refusal::BadRecord => 16,
-        Refusal::OtherUnit => 17,
-        Refusal::BeyondReach => 18,
+impl From<Refusal> for u32 {
+    ghost from_gives = { λ r n. n ≡ number r };
+
+    fn from(r: Refusal) -> u32 {
+        match r {
+            Refusal::OddCount => 1,
+            Refusal::BadCounts => 2,
+            Refusal::TooFew => 3,
+            Refusal::TooMany => 4,
+            Refusal::NotFinite => 5,
+            Refusal::OutsideField => 6,
+            Refusal::EqualNeighbours => 7,
+            Refusal::ZeroArea => 8,
+            Refusal::NegativeArea => 9,
+            Refusal::BadPoint => 10,
+            Refusal::BadBox => 11,
+            Refusal::BadEllipse => 12,
+            Refusal::ShortBuffer => 13,
+            Refusal::LongList => 14,
+            Refusal::BadPointCount => 15,
+            Refusal::BadRecord => 16,
+            Refusal::OtherUnit => 17,
+            Refusal::BeyondReach => 18,
+        }
     }
 }
 
@@ -86,10 +86,8 @@ fn any_unfit(v: &[f64], only: bool) -> bool
     ensures { result ≡ any (λ x. not (cond only (finite x) (is_in_field x))) v.now }
 {
     let mut found = false;
-    let mut i = 0;
-    while i < v.len() {
-        found = found | !number_fits(only, v[i]);
-        i += 1;
+    for x in v {
+        found = found | !number_fits(only, *x);
     }
     found
 }
@@ -102,27 +100,27 @@ pub fn shoelace_term(e: Edge) -> f64
 }
 
 // Test 8.
-pub fn area_tested(a: f64) -> Verdict
+pub fn area_tested(a: f64) -> Result<f64, Refusal>
     ensures { result ≡ edges_verdict false a }
 {
     if a == 0.0 {
-        return Verdict::TurnedAway(Refusal::ZeroArea);
+        return Err(Refusal::ZeroArea);
     }
-    Verdict::Area(a)
+    Ok(a)
 }
 
 // Tests 7 and 8 of the last edge, where the terms before it come to sum.
-pub fn last_tested(sum: f64, e: Edge) -> Verdict
+pub fn last_tested(sum: f64, e: Edge) -> Result<f64, Refusal>
     ensures { result ≡ edges_verdict (same_point e.a e.b) (div binary64 (add binary64 sum (shoelace_term e)) two) }
 {
     if same_point(e.a, e.b) {
-        return Verdict::TurnedAway(Refusal::EqualNeighbours);
+        return Err(Refusal::EqualNeighbours);
     }
     area_tested((sum + shoelace_term(e)) / 2.0)
 }
 
 // Tests 7 and 8, in one pass over the edges. Each vertex is read once: the end of one edge is the start of the next.
-fn edges_tested(v: &[f64]) -> Verdict
+fn edges_tested(v: &[f64]) -> Result<f64, Refusal>
     ensures { result ≡ edges_verdict (equal_neighbours v.now) (area_of (edges v.now)) }
 {
     let n = v.len() / 2;
@@ -132,96 +130,84 @@ fn edges_tested(v: &[f64]) -> Verdict
     }
     let first = boundary::vertex_at(v, 0);
     let mut a = first;
-    let mut i = 0;
-    while i + 1 < n {
+    for i in 0..n - 1 {
         let b = boundary::vertex_at(v, i + 1);
         if same_point(a, b) {
-            return Verdict::TurnedAway(Refusal::EqualNeighbours);
+            return Err(Refusal::EqualNeighbours);
         }
         sum = sum + shoelace_term(Edge { a, b });
         a = b;
-        i += 1;
     }
     last_tested(sum, Edge { a, b: first })
 }
 
 // Tests 5 to 8. What is not finite is outside the field too, so one pass tells that both pass.
-pub fn values_tested(v: &[f64]) -> Verdict
-    ensures { result ≡ given (values_tested v.now) (Area (area_of (edges v.now))) TurnedAway }
+pub fn values_tested(v: &[f64]) -> Result<f64, Refusal>
+    ensures { result ≡ given (values_tested v.now) (Ok (area_of (edges v.now))) Err }
 {
     if any_unfit(v, false) {
         if any_unfit(v, true) {
-            return Verdict::TurnedAway(Refusal::NotFinite);
+            return Err(Refusal::NotFinite);
         }
-        return Verdict::TurnedAway(Refusal::OutsideField);
+        return Err(Refusal::OutsideField);
     }
     edges_tested(v)
 }
 
 // Tests 1 and 3 to 8.
-pub fn shape_tested(v: &[f64]) -> Verdict
-    ensures { result ≡ given (shape_tested v.now) (Area (area_of (edges v.now))) TurnedAway }
+pub fn shape_tested(v: &[f64]) -> Result<f64, Refusal>
+    ensures { result ≡ given (shape_tested v.now) (Ok (area_of (edges v.now))) Err }
 {
     let n = v.len() / 2;
     if v.len() % 2 == 1 {
-        return Verdict::TurnedAway(Refusal::OddCount);
+        return Err(Refusal::OddCount);
     }
     if n < 3 {
-        return Verdict::TurnedAway(Refusal::TooFew);
+        return Err(Refusal::TooFew);
     }
     if 4096 < n {
-        return Verdict::TurnedAway(Refusal::TooMany);
+        return Err(Refusal::TooMany);
     }
     values_tested(v)
 }
 
 // Test 9, after those that handed t over.
-pub fn sign_tested(t: Verdict) -> Verdict
-    ensures { (v : List Float) (s : Test) → t ≡ given s (Area (area_of (edges v))) TurnedAway
-        → result ≡ given (s refusing NegativeArea when negative_area v) (Area (area_of (edges v))) TurnedAway }
+pub fn sign_tested(t: Result<f64, Refusal>) -> Result<f64, Refusal>
+    ensures { (v : List Float) (s : Test) → t ≡ given s (Ok (area_of (edges v))) Err
+        → result ≡ given (s refusing NegativeArea when negative_area v) (Ok (area_of (edges v))) Err }
 {
-    match t {
-        Verdict::Area(a) => {
-            if a < 0.0 {
-                Verdict::TurnedAway(Refusal::NegativeArea)
-            } else {
-                Verdict::Area(a)
-            }
-        }
-        Verdict::TurnedAway(r) => Verdict::TurnedAway(r),
+    let area = t?;
+    if area < 0.0 {
+        return Err(Refusal::NegativeArea);
     }
+    Ok(area)
 }
 
 // The tests of a query's outline, 1 to 9, with its area.
-pub fn outline_verdict(v: &[f64]) -> Verdict
-    ensures { result ≡ given (outline_tested v.now) (Area (area_of (edges v.now))) TurnedAway }
+pub fn outline_verdict(v: &[f64]) -> Result<f64, Refusal>
+    ensures { result ≡ given (outline_tested v.now) (Ok (area_of (edges v.now))) Err }
 {
     sign_tested(shape_tested(v))
 }
 
 // What the tests say, without the area.
-pub fn test_of(t: Verdict) -> Test
+pub fn test_of(t: Result<f64, Refusal>) -> Result<(), Refusal>
     ensures { result ≡ test_of t }
 {
-    match t {
-        Verdict::Area(_) => Test::Passed,
-        Verdict::TurnedAway(r) => Test::Failed(r),
-    }
+    t?;
+    Ok(())
 }
 
 // The tests of a query's outline, for a caller that does not need the area.
-pub fn outline_tested(v: &[f64]) -> Test
+pub fn outline_tested(v: &[f64]) -> Result<(), Refusal>
     ensures { result ≡ outline_tested v.now }
 {
     test_of(outline_verdict(v))
 }
 
-// A test after those that said t: it refuses with r when `fails` holds.
-pub fn refusing(t: Test, r: Refusal, fails: bool) -> Test
-    ensures { result ≡ (t refusing r when fails) }
+// A test: it refuses with r when `fails` holds.
+pub fn refuse_when(fails: bool, r: Refusal) -> Result<(), Refusal>
+    ensures { result ≡ (all_passed refusing r when fails) }
 {
-    match t {
-        Test::Passed => { if fails { Test::Failed(r) } else { Test::Passed } }
-        Test::Failed(q) => Test::Failed(q),
-    }
+    if fails { Err(r) } else { Ok(()) }
 }

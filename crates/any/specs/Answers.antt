@@ -1,13 +1,12 @@
 -- What `any_at` answers, and all that it leaves. Definitions only.
+use Rattle.std.specs.Prelude.{Ok, Err}
+use Rattle.accept.specs.Refusals.{Answer}
 use Rattle.std.specs.Prelude.{Bool, cond, List, ℕ, Float}
 use Rattle.boundary.specs.declared.Point.{Point}
 use Rattle.boundary.specs.Boxes.{point_box}
 use Rattle.lists.specs.Lists.{any}
 use Rattle.boundary.specs.Outline.{edges}
-use Rattle.accept.specs.declared.Answer.{Answer}
-use Rattle.accept.specs.declared.CountFields.{CountFields}
-use Rattle.accept.specs.declared.Answer.TheVariants.{Refused, Count}
-use Rattle.accept.specs.Answers.{Outcome, count_fields, in_fields}
+use Rattle.accept.specs.Answers.{Outcome, count_fields, in_fields, Fields}
 use Rattle.geometry.specs.Polygon.{contains_of}
 use Rattle.tree.specs.Tree.{index_of}
 use Rattle.index.specs.Buffer.{IndexBuffer}
@@ -32,9 +31,9 @@ any_at os p = any (contains_in os p) (listed_at os p)
 
 -- ---- the call, over the set that v and cs are, at p, with the index buffer B
 -- yes is 1, and no is 0
-unfoldable pub any_outcome : List Float → List ℕ → Point → IndexBuffer → Outcome Answer IndexBuffer
-any_outcome v cs p B = query_outcome v cs p B (Count (cond (any_at (outlines_of v cs) p) 1 0)) Refused
+unfoldable pub any_outcome : List Float → List ℕ → Point → IndexBuffer → Outcome (Answer ℕ) IndexBuffer
+any_outcome v cs p B = query_outcome v cs p B (Ok (cond (any_at (outlines_of v cs) p) 1 0)) Err
 
 -- the same, with the answer in its fields
-abbrev pub any_call : List Float → List ℕ → Point → IndexBuffer → Outcome CountFields IndexBuffer
+abbrev pub any_call : List Float → List ℕ → Point → IndexBuffer → Outcome (Fields ℕ) IndexBuffer
 any_call v cs p B = in_fields count_fields (any_outcome v cs p B)

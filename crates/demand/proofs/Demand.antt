@@ -1,4 +1,5 @@
 -- Demand 3 of every accepted set that has an outline and every query point, all on the grid. Assumes nothing.
+use Rattle.std.proofs.Common.{Ok}
 use mathlib.Core.Path.{◌≡◌, sym, ap, ◌∙◌}
 use mathlib.Core.Bool.{false, not}
 use mathlib.Core.List.{List}
@@ -15,10 +16,8 @@ use Rattle.boundary.specs.declared.Point.{Point}
 use Rattle.boundary.specs.declared.Distance.{Distance}
 use Rattle.distance.specs.Nearest.{nearest_of, signed_of}
 use Rattle.boundary.specs.Outline.{edges}
-use Rattle.accept.specs.declared.Answer.TheVariants.{DistanceWith}
 use Rattle.geometry.specs.Polygon.{contains_of}
-use Rattle.accept.specs.declared.Test.TheVariants.{Passed}
-use Rattle.accept.specs.Refusals.{◌refusing◌when◌, given}
+use Rattle.accept.specs.Refusals.{all_passed, ◌refusing◌when◌, given}
 use Rattle.geometry.specs.Answers.{outline_query_tested, distance_answer}
 use Rattle.index.specs.Buffer.{IndexBuffer, short_buffer}
 use Rattle.set.specs.Set.{Outline, outlines_of, outline_in}
@@ -27,7 +26,6 @@ use Rattle.set.specs.Answers.{query_outcome}
 use Rattle.set.proofs.SetLaws.{outlines_length, outline_passes}
 use Rattle.search.specs.Least.{magnitude_of, magnitude_at, least_in}
 use Rattle.search.proofs.LeastLaws.{least_of_lem}
-use Rattle.nearest.specs.declared.Nearest.TheVariants.{At}
 use Rattle.nearest.specs.Nearest.{nearest_in}
 use Rattle.nearest.specs.Answers.{nearest_outcome}
 use Rattle.nearest.proofs.NearestLeast.{least_is}
@@ -40,7 +38,7 @@ use Rattle.exact.specs.OneOutline.{OutlineExact}
 use Rattle.demand.specs.Demand.{Demand3}
 use Rattle.demand.proofs.OutlineLaws.{outline_on}
 
-module _ (v : List Float) (cs : List ℕ) (passed : set_tested v cs ≡ Passed) (some : 0 < length cs) (grid : OutlineOn v) {p : Point} {q : PointZ} (on : PointOn p q) where
+module _ (v : List Float) (cs : List ℕ) (passed : set_tested v cs ≡ all_passed) (some : 0 < length cs) (grid : OutlineOn v) {p : Point} {q : PointZ} (on : PointOn p q) where
   abbrev os : List Outline
   os = outlines_of v cs
 
@@ -57,8 +55,8 @@ module _ (v : List Float) (cs : List ℕ) (passed : set_tested v cs ≡ Passed) 
       let o = outline_in os k in
       let e = outline_exact k l in
       let s = signed_of (nearest_of (edges o) p) p (contains_of (edges o) p) in
-      let f : distance_answer o p ≡ DistanceWith s = rw (outline_passes v cs passed k l, grid_in_field on.x, grid_in_field on.y) in
-      let g : DistanceWith s ≡ DistanceWith e.distance = sym f ∙ e.distance_answer_lem in
+      let f : distance_answer o p ≡ Ok s = rw (outline_passes v cs passed k l, grid_in_field on.x, grid_in_field on.y) in
+      let g : Ok s ≡ Ok e.distance = sym f ∙ e.distance_answer_lem in
       let h : s ≡ e.distance = cc in
       ap (λ (x : Distance). abs_of x.d) h
 

@@ -1,11 +1,11 @@
 -- Demand 3 at each point of a call for many points: the place of the point has the nearest answer that demand 3 speaks of. Assumes nothing.
+use Rattle.accept.specs.Refusals.{all_passed}
 use mathlib.Core.Path.{◌≡◌, ap, ap₂, ◌∙◌}
 use mathlib.Core.List.{List}
 use Prim.Native.Nat.{ℕ, ◌<◌}
 use lib.ListN.{length}
 use lib.Ieee.{Float}
 use Rattle.boundary.specs.Outline.{count, vertex_at}
-use Rattle.accept.specs.declared.Test.TheVariants.{Passed}
 use Rattle.search.specs.declared.Best.{Best}
 use Rattle.nearest.specs.declared.NearestFields.{NearestFields}
 use Rattle.nearest.specs.Nearest.{nearest_fields}
@@ -19,7 +19,7 @@ use Rattle.exact.specs.Grid.{PointOn}
 use Rattle.demand.specs.Demand.{Demand3}
 use Rattle.demand.proofs.Demand.{demand_3}
 
-module _ (v : List Float) (cs : List ℕ) (ps : List Float) (L : ManyLent) (passed : many_tested v cs ps L ≡ Passed) (some : 0 < length cs) where
+module _ (v : List Float) (cs : List ℕ) (ps : List Float) (L : ManyLent) (passed : many_tested v cs ps L ≡ all_passed) (some : 0 < length cs) where
   -- what the call leaves at place i
   abbrev left : ℕ → Best
   left i = record { outline = outline_left v cs ps L i; distance = distance_left v cs ps L i }

@@ -1,12 +1,11 @@
 -- Demand 3, of the set that the lists v and cs are and a query point p on the grid, which is q in steps. Definitions only.
-use Rattle.std.specs.Prelude.{◌≡◌, false, List, ℕ, ◌<◌, length, Float}
+use Rattle.std.specs.Prelude.{◌≡◌, false, List, ℕ, ◌<◌, length, Ok, Float}
 use Rattle.number.specs.Signs.{abs_of}
 use Rattle.boundary.specs.declared.Point.{Point}
 use Rattle.index.specs.Buffer.{IndexBuffer, short_buffer}
 use Rattle.set.specs.Set.{outlines_of, outline_in}
 use Rattle.search.specs.declared.Best.{Best}
 use Rattle.search.specs.Least.{magnitude_at}
-use Rattle.nearest.specs.declared.Nearest.TheVariants.{At}
 use Rattle.nearest.specs.Nearest.{NearestIs}
 use Rattle.nearest.specs.Answers.{nearest_outcome}
 use Rattle.grid.specs.Whole.{PointZ}

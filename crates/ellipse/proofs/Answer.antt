@@ -1,4 +1,5 @@
 -- What the call answers for an ellipse: it is finite, and comes from a point in the quadrant of the query. Assumes nothing.
+use Rattle.std.proofs.Common.{Ok, Err}
 use mathlib.Core.Path.{◌≡◌, refl, sym, subst}
 use mathlib.Core.Bool.{Bool, false, not, ◌&&◌}
 use Prim.Native.Nat.{ℕ}
@@ -14,12 +15,9 @@ use Rattle.boundary.specs.declared.Point.{Point}
 use Rattle.boundary.specs.declared.Distance.{Distance}
 use Rattle.distance.specs.Ellipse.{ellipse_nearest, ellipse_near}
 use Rattle.distance.specs.Piece.{piece_near}
-use Rattle.accept.specs.declared.Answer.TheVariants.{Refused, DistanceWith}
 use Rattle.accept.specs.declared.Refusal.{Refusal}
 use Rattle.accept.specs.declared.Refusal.TheVariants.{BadPoint, BadEllipse}
-use Rattle.accept.specs.declared.Test.{Test}
-use Rattle.accept.specs.declared.Test.TheVariants.{Passed, Failed}
-use Rattle.accept.specs.Refusals.{◌refusing◌when◌, given}
+use Rattle.accept.specs.Refusals.{Test, all_passed, ◌refusing◌when◌, given, Answer}
 use Rattle.accept.proofs.TestLaws.{refusing_passed}
 use Rattle.boundary.specs.Boxes.{is_in_field, point_in_field}
 use Rattle.ellipse.specs.Ellipse.{axis_fits, offset_fits, ellipse_fits, ellipse_tested, ellipse_answer}
@@ -44,10 +42,10 @@ offset_of {c} {p} C P t =
     let m : Ranged zeroᶠ (power 21) (abs_of (sub binary64 p c)) = abs_range d tt in
     record { fits = sub-fits binary64 p c; most = m.high; least = t }
 
-refused_not_away : {n : Refusal} {r : Distance} {X : Type 0} → Refused n ≡ DistanceWith r → X
+refused_not_away : {n : Refusal} {r : Distance} {X : Type 0} → ◌≡◌ {A = Answer Distance} (Err n) (Ok r) → X
 refused_not_away e = let z : ◌≡◌ {A = ℕ} 0 1 = cc in absurd (omega arith)
 
-away_same : {r s : Distance} → DistanceWith r ≡ DistanceWith s → r ≡ s
+away_same : {r s : Distance} → ◌≡◌ {A = Answer Distance} (Ok r) (Ok s) → r ≡ s
 away_same e = cc
 
 -- ---- one coordinate: moved back, and less than the point's
@@ -78,20 +76,20 @@ module _ {c p : Point} {a b : Float} (Cx : InField c.x) (Cy : InField c.y) (Px :
 
 -- ---- the theorem
 -- both points are in the field, and the ellipse fits
-ellipse_passed : (c : Point) (a b : Float) (p : Point) → ellipse_tested c a b p ≡ Passed → T (point_in_field p) × T (point_in_field c) × T (ellipse_fits c a b p)
+ellipse_passed : (c : Point) (a b : Float) (p : Point) → ellipse_tested c a b p ≡ all_passed → T (point_in_field p) × T (point_in_field c) × T (ellipse_fits c a b p)
 unfolding ellipse_tested
 ellipse_passed c a b p e =
-    let point = Passed refusing BadPoint when not (point_in_field p) in
+    let point = all_passed refusing BadPoint when not (point_in_field p) in
     let centre = point refusing BadPoint when not (point_in_field c) in
     let t12 = refusing_passed centre BadEllipse _ e in
     let t10 = refusing_passed point BadPoint _ t12.0 in
-    let t = refusing_passed Passed BadPoint _ t10.0 in
+    let t = refusing_passed all_passed BadPoint _ t10.0 in
     (holds (point_in_field p) t.1, holds (point_in_field c) t10.1, holds (ellipse_fits c a b p) t12.1)
   where
     holds : (x : Bool) → not x ≡ false → T x
     holds x e = subst T (sym (not-false x e)) tt
 
-pub quadrant_answer : {c : Point} {a b : Float} {p : Point} {r : Distance} → FitsPoint c → T (fits binary64 a) → T (fits binary64 b) → FitsPoint p → ellipse_answer c a b p ≡ DistanceWith r → QuadrantAnswer c a b p r
+pub quadrant_answer : {c : Point} {a b : Float} {p : Point} {r : Distance} → FitsPoint c → T (fits binary64 a) → T (fits binary64 b) → FitsPoint p → ellipse_answer c a b p ≡ Ok r → QuadrantAnswer c a b p r
 unfolding ellipse_answer ellipse_fits given piece_near
 quadrant_answer {c} {a} {b} {p} {r} C A B P e = go (ellipse_tested c a b p) refl e
   where
@@ -109,6 +107,6 @@ quadrant_answer {c} {a} {b} {p} {r} C A B P e = go (ellipse_tested c a b p) refl
         (offset_of Cx Px (and_l (offset_fits c.x p.x) (offset_fits c.y p.y) offs))
         (offset_of Cy Py (and_r (offset_fits c.x p.x) (offset_fits c.y p.y) offs)))
 
-    go : (t : Test) → ellipse_tested c a b p ≡ t → given t (DistanceWith (near_of c a b p)) Refused ≡ DistanceWith r → QuadrantAnswer c a b p r
-    go Passed t e = let f = ellipse_passed c a b p t in subst (QuadrantAnswer c a b p) (away_same e) (away f.0 f.1 f.2)
-    go (Failed n) t e = refused_not_away e
+    go : (t : Test) → ellipse_tested c a b p ≡ t → given t (Ok (near_of c a b p)) Err ≡ Ok r → QuadrantAnswer c a b p r
+    go (Ok _) t e = let f = ellipse_passed c a b p t in subst (QuadrantAnswer c a b p) (away_same e) (away f.0 f.1 f.2)
+    go (Err n) t e = refused_not_away e

@@ -1,19 +1,16 @@
 -- The nearest point of an ellipse: tests 10 and 12 (document 01), and what the call answers. Definitions only.
-use Rattle.std.specs.Prelude.{Bool, false, not, ◌&&◌, ◌||◌, pos, negsuc, Float}
+use Rattle.std.specs.Prelude.{Bool, false, not, ◌&&◌, ◌||◌, pos, negsuc, Ok, Err, Float}
 use Rattle.std.specs.Float.{fin, binary64}
 use Rattle.std.specs.Float.Ieee.{sub, le, eq}
 use Rattle.number.specs.Exact.{zeroᶠ}
 use Rattle.number.specs.Signs.{abs_of}
 use Rattle.boundary.specs.declared.Point.{Point}
+use Rattle.boundary.specs.declared.Distance.{Distance}
 use Rattle.boundary.specs.Boxes.{point_in_field}
 use Rattle.distance.specs.declared.Piece.TheVariants.{Ellipse}
 use Rattle.distance.specs.Piece.{piece_near}
-use Rattle.accept.specs.declared.Answer.{Answer}
-use Rattle.accept.specs.declared.Answer.TheVariants.{Refused, DistanceWith}
 use Rattle.accept.specs.declared.Refusal.TheVariants.{BadPoint, BadEllipse}
-use Rattle.accept.specs.declared.Test.{Test}
-use Rattle.accept.specs.declared.Test.TheVariants.{Passed}
-use Rattle.accept.specs.Refusals.{◌refusing◌when◌, given}
+use Rattle.accept.specs.Refusals.{Answer, Test, all_passed, ◌refusing◌when◌, given}
 
 -- ---- test 12
 -- a semi-axis is 2 ^ -10 to 1,024
@@ -42,12 +39,12 @@ ellipse_fits c a b p = (axis_fits a && axis_fits b) && (offset_fits c.x p.x && o
 -- test 10 of the point and of the centre, then test 12
 unfoldable pub ellipse_tested : Point → Float → Float → Point → Test
 ellipse_tested c a b p =
-    Passed refusing BadPoint when not (point_in_field p)
+    all_passed refusing BadPoint when not (point_in_field p)
     refusing BadPoint when not (point_in_field c)
     refusing BadEllipse when not (ellipse_fits c a b p)
 
 -- its distance, and its nearest point
-unfoldable pub ellipse_answer : Point → Float → Float → Point → Answer
+unfoldable pub ellipse_answer : Point → Float → Float → Point → Answer Distance
 ellipse_answer c a b p =
     let k = piece_near (Ellipse c a b) p in
-    given (ellipse_tested c a b p) (DistanceWith (record { d = k.d; v = k.q })) Refused
+    given (ellipse_tested c a b p) (Ok (record { d = k.d; v = k.q })) Err

@@ -4,8 +4,8 @@
 ghost use Rattle.std.specs.Prelude.{◌≡◌};
 ghost use Rattle.ellipse.specs.Ellipse.{axis_fits, offset_fits, ellipse_fits, ellipse_tested, ellipse_answer};
 
-use accept::refusals::{point_in_field, refusing};
-use accept::{Answer, Refusal, Test};
+use accept::Refusal;
+use accept::refusals::{point_in_field, refuse_when};
 use boundary::{Distance, Point};
 use distance::Piece;
 
@@ -36,24 +36,20 @@ fn ellipse_fits(c: Point, a: f64, b: f64, p: Point) -> bool
 }
 
 // Test 10 of the point and of the centre, then test 12.
-fn ellipse_tested(c: Point, a: f64, b: f64, p: Point) -> Test
+fn ellipse_tested(c: Point, a: f64, b: f64, p: Point) -> Result<(), Refusal>
     ensures { result ≡ ellipse_tested c a b p }
 {
-    let point = refusing(Test::Passed, Refusal::BadPoint, !point_in_field(p));
-    let centre = refusing(point, Refusal::BadPoint, !point_in_field(c));
-    refusing(centre, Refusal::BadEllipse, !ellipse_fits(c, a, b, p))
+    refuse_when(!point_in_field(p), Refusal::BadPoint)?;
+    refuse_when(!point_in_field(c), Refusal::BadPoint)?;
+    refuse_when(!ellipse_fits(c, a, b, p), Refusal::BadEllipse)
 }
 
 // The point nearest to p of the ellipse with centre c and semi-axes a along x and b along y.
-pub fn ellipse_nearest(c: Point, a: f64, b: f64, p: Point) -> Answer
+pub fn ellipse_nearest(c: Point, a: f64, b: f64, p: Point) -> Result<Distance, Refusal>
     ensures { result ≡ ellipse_answer c a b p }
 {
-    match ellipse_tested(c, a, b, p) {
-        Test::Passed => {
-            let k = Piece::Ellipse { c, a, b }.nearest(p);
-            let v = k.q;
-            Answer::DistanceWith(Distance { d: k.d, v })
-        }
-        Test::Failed(r) => Answer::Refused(r),
-    }
+    ellipse_tested(c, a, b, p)?;
+    let near = Piece::Ellipse { c, a, b }.nearest(p);
+    let v = near.q;
+    Ok(Distance { d: near.d, v })
 }

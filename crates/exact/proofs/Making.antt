@@ -1,4 +1,5 @@
 -- An outline on the grid that making accepts is made into one that passes tests 1 to 9. Assumes nothing.
+use Rattle.std.proofs.Common.{Ok, Err}
 use mathlib.Core.Path.{◌≡◌, refl, sym, ap, ap₂, ◌∙◌, subst}
 use mathlib.Core.Bool.{Bool, true, false, not, ◌&&◌, ◌||◌, cond, and_comm}
 use mathlib.Core.List.{List, [], ◌∷◌, reverse}
@@ -22,13 +23,9 @@ use Rattle.boundary.specs.declared.Point.{Point}
 use Rattle.boundary.specs.declared.Edge.{Edge}
 use Rattle.lists.specs.Lists.{any, at_front, Each}
 use Rattle.boundary.specs.Outline.{same_point, count, vertices, edges}
-use Rattle.accept.specs.declared.Test.{Test}
-use Rattle.accept.specs.declared.Test.TheVariants.{Passed, Failed}
-use Rattle.accept.specs.declared.Answer.{Answer}
-use Rattle.accept.specs.declared.Answer.TheVariants.{Count}
 use Rattle.accept.specs.declared.Refusal.TheVariants.{ShortBuffer}
 use Rattle.accept.specs.Area.{area_of}
-use Rattle.accept.specs.Refusals.{given, negative_area, shape_tested, outline_tested}
+use Rattle.accept.specs.Refusals.{Answer, Test, all_passed, given, negative_area, shape_tested, outline_tested}
 use Rattle.accept.specs.Answers.{Outcome, refused_with}
 use Rattle.geometry.specs.Making.{kept, kept_count, coordinates_of, turned, make_tested, made_of, make_outcome}
 use Rattle.grid.specs.Grid.{OutlineOn}
@@ -120,7 +117,7 @@ module _ {w : List Float} {qs : List PointZ} (s : Shape w) (r : Each PointOn (ve
           nonzero = eq_is back_area (zero_is 21) ∙ eq_false above;
         }
 
-    back_accepted : outline_tested back ≡ Passed
+    back_accepted : outline_tested back ≡ all_passed
     unfolding outline_tested
     back_accepted = rw (tested back_shape, lt_is back_area (zero_is 21), lt_false (<ℤ→≤ℤ above))
 
@@ -131,7 +128,7 @@ module _ {w : List Float} {qs : List PointZ} (s : Shape w) (r : Each PointOn (ve
 
 -- ---- the theorems
 -- the made outline
-pub made_on : {v : List Float} → OutlineOn v → shape_tested (kept v) ≡ Passed → MadeOn v (made_of v)
+pub made_on : {v : List Float} → OutlineOn v → shape_tested (kept v) ≡ all_passed → MadeOn v (made_of v)
 unfolding made_of kept turned outline_tested
 made_on {v} g t = made (negative_area w) refl
   where
@@ -161,21 +158,21 @@ made_length v = length_numbers _ ∙ ap (λ (m : ℕ). 2 * m) (as_many (negative
     as_many false = length_vertices (kept v)
 
 -- as a call leaves it
-pub made_accepted : {v : List Float} (out : List Float) {n : ℕ} → OutlineOn v → (make_outcome v out).answer ≡ Count n → MadeOn v (take (2 * n) (make_outcome v out).lent)
+pub made_accepted : {v : List Float} (out : List Float) {n : ℕ} → OutlineOn v → (make_outcome v out).answer ≡ Ok n → MadeOn v (take (2 * n) (make_outcome v out).lent)
 unfolding make_outcome given at_front
 made_accepted {v} out {n} g e = go (make_tested v (length out)) refl e
   where
     w : List Float
     w = kept v
 
-    passed : make_tested v (length out) ≡ Passed → shape_tested w ≡ Passed
+    passed : make_tested v (length out) ≡ all_passed → shape_tested w ≡ all_passed
     passed t = (refusing_passed (shape_tested w) ShortBuffer (ltb (length out) (length v)) (unfold make_tested in t)).0
 
-    left : Test → Outcome Answer (List Float)
-    left t = given t (record { answer = Count (count w); lent = at_front (made_of v) out }) (refused_with out)
+    left : Test → Outcome (Answer ℕ) (List Float)
+    left t = given t (record { answer = Ok (count w); lent = at_front (made_of v) out }) (refused_with out)
 
-    go : (t : Test) → make_tested v (length out) ≡ t → (left t).answer ≡ Count n → MadeOn v (take (2 * n) (left t).lent)
-    go (Failed r) t e = absurd (let z : ◌≡◌ {A = ℕ} 0 1 = cc in omega arith)
-    go Passed t e =
+    go : (t : Test) → make_tested v (length out) ≡ t → (left t).answer ≡ Ok n → MadeOn v (take (2 * n) (left t).lent)
+    go (Err r) t e = absurd (let z : ◌≡◌ {A = ℕ} 0 1 = cc in omega arith)
+    go (Ok _) t e =
         let k : count w ≡ n = cc in
         rw (take_at (made_of v) (drop (length (made_of v)) out) (2 * n) (made_length v ∙ ap (λ (m : ℕ). 2 * m) k)) (made_on g (passed t))

@@ -5,10 +5,9 @@ use lib.Ieee.{Float}
 use Rattle.boundary.specs.declared.Point.{Point}
 use Rattle.boundary.specs.Outline.{edges}
 use Rattle.distance.specs.Nearest.{nearest_of, signed_of}
-use Rattle.accept.specs.declared.Test.TheVariants.{Passed}
 use Rattle.accept.specs.Area.{area_of}
 use Rattle.geometry.specs.Polygon.{contains_of}
-use Rattle.accept.specs.Refusals.{◌refusing◌when◌, given, outline_tested}
+use Rattle.accept.specs.Refusals.{all_passed, ◌refusing◌when◌, given, outline_tested}
 use Rattle.geometry.specs.Answers.{outline_query_tested, area_answer, locate_answer, contains_answer, distance_answer}
 use Rattle.grid.specs.Grid.{OutlineOn}
 use Rattle.grid.specs.Whole.{PointZ}
@@ -22,7 +21,7 @@ use Rattle.accept.proofs.TestLaws.{shape, outline_shape_passed}
 use Rattle.exact.proofs.Tests.{grid_in_field}
 use Rattle.boundary.proofs.OutlineLaws.{few_edges, some_edges}
 
-pub grid_exact : {o : List Float} {p : Point} {q : PointZ} → OutlineOn o → outline_tested o ≡ Passed → PointOn p q → OutlineExact o p q
+pub grid_exact : {o : List Float} {p : Point} {q : PointZ} → OutlineOn o → outline_tested o ≡ all_passed → PointOn p q → OutlineExact o p q
 unfolding area_answer outline_query_tested locate_answer contains_answer distance_answer given ◌refusing◌when◌
 grid_exact {o} {p} g e P =
     let s = shape o (outline_shape_passed o e) in

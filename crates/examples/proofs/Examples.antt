@@ -1,4 +1,5 @@
 -- Every starred example holds: what the definitions give is what the document says. Assumes nothing.
+use Rattle.std.proofs.Common.{Ok}
 use mathlib.Core.Path.{◌≡◌, refl, sym, ap, ◌∙◌}
 use mathlib.Core.Bool.{Bool, true, false, not}
 use mathlib.Core.List.{List, [], ◌∷◌, ◌++◌, flat_map, append-nil}
@@ -23,15 +24,12 @@ use Rattle.boundary.specs.Line.{param_of, along_of, foot_of, normal_of, line_nea
 use Rattle.distance.specs.Piece.{piece_near}
 use Rattle.distance.specs.Nearest.{nearest_of, rounding_of, signed_of}
 use Rattle.distance.specs.Ellipse.{quadrant_nearest, on_axis, long_nearest, ellipse_nearest, ellipse_foot, ellipse_near}
-use Rattle.accept.specs.declared.Answer.TheVariants.{DistanceWith}
 use Rattle.accept.specs.declared.Refusal.TheVariants.{BadPoint, ShortBuffer}
-use Rattle.accept.specs.declared.Test.{Test}
-use Rattle.accept.specs.declared.Test.TheVariants.{Passed}
 use Rattle.accept.specs.Answers.{distance_of, distance_fields}
 use Rattle.geometry.specs.Answers.{outline_query_tested, area_answer, perimeter_answer, contains_answer, locate_answer, distance_answer}
 use Rattle.accept.specs.Area.{area_of}
 use Rattle.geometry.specs.Polygon.{contains_of, crosses_of, locate_of, on_edge}
-use Rattle.accept.specs.Refusals.{◌refusing◌when◌, given, count_tested, values_tested, shape_tested, outline_tested}
+use Rattle.accept.specs.Refusals.{Test, all_passed, ◌refusing◌when◌, given, count_tested, values_tested, shape_tested, outline_tested}
 use Rattle.geometry.specs.Making.{closed, kept_count, kept, make_tested, coordinates_of, made_of, make_outcome}
 use Rattle.ellipse.specs.Ellipse.{offset_fits, ellipse_fits, ellipse_tested, ellipse_answer}
 use Rattle.clip.specs.Clip.{in_half_plane, crosses, part_of, parts_of, parts, lead, last_kept, rotated, kept_lines, joint, onward, joined, clip_of}
@@ -48,7 +46,6 @@ use Rattle.set.specs.Set.{start_of, outline_at, outlines_of}
 use Rattle.set.specs.Tests.{lists_tested, outlines_tested, set_tested, set_query_tested}
 use Rattle.set.specs.Answers.{query_outcome}
 use Rattle.search.specs.Least.{magnitude_of, magnitude_at, least_of}
-use Rattle.nearest.specs.declared.Nearest.TheVariants.{At}
 use Rattle.nearest.specs.Nearest.{nearest_in}
 use Rattle.nearest.specs.Answers.{nearest_outcome, nearest_call}
 use Rattle.examples.specs.Examples.{um, micro_point, cell, tenths, S, S-right, both, fours, boxes, room, room_after, list_places, AllHold, starred}
@@ -67,7 +64,7 @@ unfolding nearest_of piece_near line_near foot_of param_of along_of normal_of hy
 nearest_7 = refl
 
 -- and then its sign
-signed_at : (p : Point) (in_half_plane : Bool) (c : Near) (d : Distance) → nearest_of (edges S) p ≡ c → signed_of c p in_half_plane ≡ d → DistanceWith (signed_of (nearest_of (edges S) p) p in_half_plane) ≡ DistanceWith d
+signed_at : (p : Point) (in_half_plane : Bool) (c : Near) (d : Distance) → nearest_of (edges S) p ≡ c → signed_of c p in_half_plane ≡ d → Ok (signed_of (nearest_of (edges S) p) p in_half_plane) ≡ Ok d
 signed_at p in_half_plane c d e f = rw (e, f)
 
 signed_6 : signed_of (record { d = um 2; q = micro_point 4 2; n = record { x = um 1; y = neg (um 0) } }) (micro_point 6 2) false ≡ distance_of (um 2) (um 1) (um 0)
@@ -90,20 +87,20 @@ signed_7 : signed_of (record { d = um 5; q = micro_point 4 4; n = record { x = u
 unfolding signed_of rounding_of abs_of with_sign max_of stands_before sign_bit is_nan sub mul div neg lt eq of_int
 signed_7 = refl
 
-in_tenths : DistanceWith (distance_of (um 5) (fin false 5404319552844595 (negsuc 52)) (fin false 3602879701896397 (negsuc 51))) ≡ DistanceWith (distance_of (um 5) (tenths 6) (tenths 8))
+in_tenths : Ok (distance_of (um 5) (fin false 5404319552844595 (negsuc 52)) (fin false 3602879701896397 (negsuc 51))) ≡ Ok (distance_of (um 5) (tenths 6) (tenths 8))
 in_tenths = rw (six_tenths, eight_tenths)
 
-distance_6 : distance_answer S (micro_point 6 2) ≡ DistanceWith (distance_of (um 2) (um 1) (um 0))
+distance_6 : distance_answer S (micro_point 6 2) ≡ Ok (distance_of (um 2) (um 1) (um 0))
 unfolding distance_answer outline_query_tested given ◌refusing◌when◌ outline_tested shape_tested count_tested values_tested area_of contains_of crosses_of
     odd_many any fold run edges add sub mul div neg lt le eq of_int
 distance_6 = signed_at (micro_point 6 2) false _ _ nearest_6 signed_6
 
-distance_1 : distance_answer S (micro_point 1 2) ≡ DistanceWith (distance_of (neg (um 1)) (neg (um 1)) (neg (um 0)))
+distance_1 : distance_answer S (micro_point 1 2) ≡ Ok (distance_of (neg (um 1)) (neg (um 1)) (neg (um 0)))
 unfolding distance_answer outline_query_tested given ◌refusing◌when◌ outline_tested shape_tested count_tested values_tested area_of contains_of crosses_of
     odd_many any fold run edges add sub mul div neg lt le eq of_int
 distance_1 = signed_at (micro_point 1 2) true _ _ nearest_1 signed_1
 
-distance_7 : distance_answer S (micro_point 7 8) ≡ DistanceWith (distance_of (um 5) (tenths 6) (tenths 8))
+distance_7 : distance_answer S (micro_point 7 8) ≡ Ok (distance_of (um 5) (tenths 6) (tenths 8))
 unfolding distance_answer outline_query_tested given ◌refusing◌when◌ outline_tested shape_tested count_tested values_tested area_of contains_of crosses_of
     odd_many any fold run edges add sub mul div neg lt le eq of_int
 distance_7 = signed_at (micro_point 7 8) false _ _ nearest_7 signed_7 ∙ in_tenths
@@ -141,11 +138,11 @@ nearest_both : nearest_in (S ∷ S-right ∷ []) (micro_point 7 2) ≡ At (recor
 unfolding nearest_in
 nearest_both = ap At (least_of_two (magnitude_at (S ∷ S-right ∷ []) (micro_point 7 2)) magnitude_left magnitude_right)
 
-both_passes : set_tested both fours ≡ Passed
+both_passes : set_tested both fours ≡ all_passed
 unfolding set_tested lists_tested outlines_tested ◌refusing◌when◌ outlines_of outline_at start_of any fold run edges area_of total add sub mul div neg lt le eq of_int
 both_passes = refl
 
-query_passes : set_query_tested both fours (micro_point 7 2) room ≡ Passed
+query_passes : set_query_tested both fours (micro_point 7 2) room ≡ all_passed
 unfolding set_query_tested ◌refusing◌when◌ neg le lt eq of_int
 query_passes = ap (λ (t : Test). t refusing BadPoint when not (point_in_field (micro_point 7 2)) refusing ShortBuffer when short_buffer room) both_passes
 
@@ -165,7 +162,7 @@ found_both : nearest_call both fours (micro_point 7 2) room ≡ record { answer 
 unfolding nearest_call nearest_outcome query_outcome given
 found_both = rw (query_passes, outlines_of_both, nearest_both, room_cleared)
 
-met : (c : Bounds) (is : List ℕ) → meeting_tested boxes c room list_places ≡ Passed → meeting_of c (index_of boxes) ≡ is
+met : (c : Bounds) (is : List ℕ) → meeting_tested boxes c room list_places ≡ all_passed → meeting_of c (index_of boxes) ≡ is
     → meeting_call boxes c room list_places ≡ record { answer = record { number = 0; count = length is }; lent = record { buffer = room_after; list = at_front is list_places } }
 unfolding meeting_outcome listing given
 met c is t e = rw (t, e, room_cleared)

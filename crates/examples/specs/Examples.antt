@@ -1,11 +1,11 @@
 -- Document 01's starred examples, as one list: what each call leaves, by the definition that its contract cites, and what the document says that it leaves. Definitions only.
+use Rattle.accept.specs.Refusals.{Answer}
 use Rattle.std.specs.Prelude.{◌≡◌, List, [], ◌∷◌, map, ℕ, pos, replicate, Float}
 use Rattle.std.specs.Float.{binary64}
 use Rattle.std.specs.Float.Ieee.{of_int, neg, div}
 use Rattle.number.specs.Exact.{zeroᶠ}
 use Rattle.boundary.specs.declared.Point.{Point}
 use Rattle.boundary.specs.declared.Bounds.{Bounds}
-use Rattle.accept.specs.declared.Answer.{Answer}
 use Rattle.accept.specs.Answers.{count_fields, measure_fields, distance_of, distance_fields}
 use Rattle.lists.specs.Lists.{zeros}
 use Rattle.geometry.specs.Answers.{area_answer, perimeter_answer, contains_answer, locate_answer, distance_answer}

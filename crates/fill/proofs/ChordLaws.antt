@@ -1,4 +1,5 @@
 -- Vertices outside a bound, one after the other, and the strip that a cell's two bounds of x make. Assumes nothing.
+use Rattle.accept.specs.Refusals.{all_passed}
 use mathlib.Core.Path.{◌≡◌, refl, sym, subst}
 use mathlib.Core.Bool.{Bool, true, false}
 use mathlib.Core.List.{List}
@@ -11,7 +12,6 @@ use Rattle.number.specs.Exact.{Doubles}
 use Rattle.boundary.specs.declared.Bounds.{Bounds}
 use Rattle.boundary.specs.Boxes.{DoubleBox}
 use Rattle.boundary.proofs.FieldLaws.{fits_ordered}
-use Rattle.accept.specs.declared.Test.TheVariants.{Passed}
 use Rattle.clip.specs.Shortened.{StripOf}
 use Rattle.clip.proofs.OneSideLaws.{outside_high_inside_low}
 use Rattle.fill.specs.Fill.{low_x_of, high_x_of}
@@ -31,7 +31,7 @@ pub up_to_itself : (P : ℕ → Type 0) (i : ℕ) → P i → (k : ℕ) → i �
 up_to_itself P i p k a b = let e : i ≡ k = omega arith in subst P e p
 
 -- ---- the bounds of x of a call whose tests pass make a strip
-pub cell_strip : (v : List Float) (c : Bounds) (room : ℕ) → Doubles v → DoubleBox c → fill_tested v c room ≡ Passed → StripOf (low_x_of c) (high_x_of c) v
+pub cell_strip : (v : List Float) (c : Bounds) (room : ℕ) → Doubles v → DoubleBox c → fill_tested v c room ≡ all_passed → StripOf (low_x_of c) (high_x_of c) v
 cell_strip v c room held box passed =
     let f = tested_box v c room box passed in
     let ordered = (fits_ordered c (fill_passed v c room passed).cell).0 in

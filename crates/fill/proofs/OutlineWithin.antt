@@ -1,4 +1,6 @@
 -- AN OUTLINE WHOLLY INSIDE A CELL, of a call whose tests pass: all four clips hand its edges on, and its fill is the sum over them. Assumes nothing.
+use Rattle.std.proofs.Common.{Ok}
+use Rattle.accept.specs.Refusals.{Answer, all_passed}
 use mathlib.Core.Path.{◌≡◌, sym, ap, ◌∙◌, subst}
 use mathlib.Core.Bool.{true, false}
 use mathlib.Core.List.{List}
@@ -14,9 +16,6 @@ use Rattle.lists.proofs.RunLaws.{length_run}
 use Rattle.boundary.specs.declared.Bounds.{Bounds}
 use Rattle.boundary.specs.Boxes.{DoubleBox, FieldValue}
 use Rattle.boundary.specs.Outline.{count, vertex_at, edge_at, edges}
-use Rattle.accept.specs.declared.Answer.{Answer}
-use Rattle.accept.specs.declared.Answer.TheVariants.{Measure}
-use Rattle.accept.specs.declared.Test.TheVariants.{Passed}
 use Rattle.accept.specs.Answers.{Outcome, refused_with}
 use Rattle.accept.proofs.TestLaws.{given_passed}
 use Rattle.clip.specs.declared.HalfPlane.{HalfPlane}
@@ -28,7 +27,7 @@ use Rattle.fill.specs.Within.{WithinCell, AllHandOn}
 use Rattle.fill.proofs.TestedLaws.{fill_passed, tested_numbers, tested_box}
 
 -- ---- each clip of the outline's own edges
-module _ (v : List Float) (c : Bounds) (room : ℕ) (held : Doubles v) (box : DoubleBox c) (passed : fill_tested v c room ≡ Passed) (within : WithinCell v c) where
+module _ (v : List Float) (c : Bounds) (room : ℕ) (held : Doubles v) (box : DoubleBox c) (passed : fill_tested v c room ≡ all_passed) (within : WithinCell v c) where
   -- a half-plane that has every vertex keeps every edge whole
   whole : (s : HalfPlane) → FieldValue s.v → ((i : ℕ) → i < count v → in_half_plane s (vertex_at v i) ≡ true) → Every (KeptWhole s) (edges v)
   whole s f h = outline_whole s v (record { numbers = tested_numbers v c room held passed; bound = f }) h
@@ -81,14 +80,14 @@ module _ (v : List Float) (c : Bounds) (room : ℕ) (held : Doubles v) (box : Do
   unfolding long_of
   within_short = rw (within_list, list3, list2, list1, edges_short)
 
-  pub within_filled : filled (half_of room) (edges v) c ≡ Measure (total xdy_of (edges v))
+  pub within_filled : filled (half_of room) (edges v) c ≡ Ok (total xdy_of (edges v))
   unfolding filled fill_of
   within_filled = rw (within_short, within_list)
 
 -- THE FILL: the sum over the outline's edges, and no refusal 14
-pub within_fill : (v : List Float) (c : Bounds) (w : List Float) → Doubles v → DoubleBox c → fill_tested v c (length w) ≡ Passed → WithinCell v c
-    → (fill_outcome v c w).answer ≡ Measure (total xdy_of (edges v))
+pub within_fill : (v : List Float) (c : Bounds) (w : List Float) → Doubles v → DoubleBox c → fill_tested v c (length w) ≡ all_passed → WithinCell v c
+    → (fill_outcome v c w).answer ≡ Ok (total xdy_of (edges v))
 unfolding fill_outcome
 within_fill v c w held box passed within =
     let done = given_passed passed (filled_outcome v c w) (refused_with w) in
-    ap (λ (o : Outcome Answer (List Float)). o.answer) done ∙ within_filled v c (length w) held box passed within
+    ap (λ (o : Outcome (Answer Float) (List Float)). o.answer) done ∙ within_filled v c (length w) held box passed within

@@ -9,7 +9,7 @@ pub mod within;
 ghost use Rattle.std.specs.Prelude.{◌≡◌};
 ghost use Rattle.fill.specs.Answers.{fill_outcome};
 
-use accept::{Answer, Test};
+use accept::Refusal;
 use boundary::Bounds;
 
 // A line from a vertex to a later one: the number after the last edge that it stands for, and how many vertices
@@ -28,15 +28,11 @@ pub struct Written {
 }
 
 // The fill of the cell c, with w as working space.
-pub fn fill(v: &[f64], c: Bounds, w: &mut [f64]) -> Answer
+pub fn fill(v: &[f64], c: Bounds, w: &mut [f64]) -> Result<f64, Refusal>
     ensures { record { answer = result; lent = w.new } ≡ fill_outcome v.now c w.old }
 {
-    match tests::fill_tested(v, c, w.len()) {
-        Test::Passed => {
-            boundary::all_held(v);
-            boundary::box_held(c);
-            cell::fill_in(v, c, w)
-        }
-        Test::Failed(r) => Answer::Refused(r),
-    }
+    tests::fill_tested(v, c, w.len())?;
+    boundary::all_held(v);
+    boundary::box_held(c);
+    cell::fill_in(v, c, w)
 }

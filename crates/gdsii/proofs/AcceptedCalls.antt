@@ -1,4 +1,6 @@
 -- What a call leaves: the set of the stream's outlines, accepted and on the grid, or a refusal with its lists as they were lent. Assumes nothing.
+use Rattle.std.proofs.Common.{Ok, Err}
+use Rattle.accept.specs.Refusals.{all_passed}
 use mathlib.Core.Path.{◌≡◌, refl, sym, ap, ap₂, ◌∙◌, subst}
 use mathlib.Core.Bool.{Bool, true, false, cond}
 use mathlib.Core.List.{List}
@@ -11,13 +13,10 @@ use lib.Ieee.{Float}
 use Rattle.lists.specs.Lists.{at_front}
 use Rattle.boundary.specs.Outline.{count}
 use Rattle.accept.specs.declared.Refusal.TheVariants.{ShortBuffer}
-use Rattle.accept.specs.declared.Test.TheVariants.{Passed}
-use Rattle.accept.specs.Answers.{Outcome, in_fields}
+use Rattle.accept.specs.Answers.{Outcome, in_fields, Fields}
 use Rattle.accept.proofs.TestLaws.{number_above}
 use Rattle.grid.specs.Grid.{OutlineOn}
 use Rattle.set.specs.Tests.{set_tested}
-use Rattle.gdsii.specs.declared.Judged.TheVariants.{Refused, Found}
-use Rattle.gdsii.specs.declared.ReadFields.{ReadFields}
 use Rattle.gdsii.specs.Reading.{set_of, counts_of, Reading, turned_down, read_as, reading}
 use Rattle.gdsii.specs.Answers.{set_size, SetLent, short_set, written, read_with, read_fields, read_call, vertices_left, counts_left}
 use Rattle.gdsii.specs.Accepted.{AcceptedStream}
@@ -31,7 +30,7 @@ pub record ReadSet (s : List ℕ) (L : SetLent) (zss : List (List ℤ)) : Type 0
   pub outlines : (read_call s L).answer.size.outlines ≡ length zss
   pub vertices : vertices_left s L ≡ set_of zss
   pub counts : counts_left s L ≡ counts_of zss
-  pub passed : set_tested (vertices_left s L) (counts_left s L) ≡ Passed
+  pub passed : set_tested (vertices_left s L) (counts_left s L) ≡ all_passed
   pub grid : OutlineOn (vertices_left s L)
 
 -- ---- what an accepted stream is answered, in lists that are long enough
@@ -45,10 +44,10 @@ front_taken : {A : Type 0} (xs out : List A) (n : ℕ) → length xs ≡ n → t
 unfolding at_front
 front_taken xs out n e = take_at xs (drop (length xs) out) n e
 
-abbrev front_vertices : Outcome ReadFields SetLent → List Float
+abbrev front_vertices : Outcome (Fields Size) SetLent → List Float
 front_vertices o = take (2 * o.answer.size.vertices) o.lent.vertices
 
-abbrev front_counts : Outcome ReadFields SetLent → List ℕ
+abbrev front_counts : Outcome (Fields Size) SetLent → List ℕ
 front_counts o = take o.answer.size.outlines o.lent.counts
 
 set_left : (s : List ℕ) (L : SetLent) {zss : List (List ℤ)} → AcceptedStream zss s → short_set zss L ≡ false → ReadSet s L zss
@@ -58,7 +57,7 @@ set_left s L {zss} a h =
     let c : counts_left s L ≡ counts_of zss = ap front_counts e ∙ front_taken (counts_of zss) L.counts (length zss) (length_counts zss) in
     record {
       accepted = a;
-      outlines = ap (λ (o : Outcome ReadFields SetLent). o.answer.size.outlines) e;
+      outlines = ap (λ (o : Outcome (Fields Size) SetLent). o.answer.size.outlines) e;
       vertices = v;
       counts = c;
       passed = ap₂ set_tested v c ∙ read_passes a;
@@ -66,12 +65,12 @@ set_left s L {zss} a h =
     }
 
 -- ---- every call
-abbrev answered : Reading → SetLent → Outcome ReadFields SetLent
+abbrev answered : Reading → SetLent → Outcome (Fields Size) SetLent
 answered r L = in_fields read_fields (read_with r L)
 
 -- where a list is short, or none is
-abbrev answered_if : Bool → List (List ℤ) → SetLent → Outcome ReadFields SetLent
-answered_if short zss L = in_fields read_fields (cond short (record { answer = Refused ShortBuffer; lent = L }) (record { answer = Found (set_size zss); lent = written zss L }))
+abbrev answered_if : Bool → List (List ℤ) → SetLent → Outcome (Fields Size) SetLent
+answered_if short zss L = in_fields read_fields (cond short (record { answer = Err ShortBuffer; lent = L }) (record { answer = Ok (set_size zss); lent = written zss L }))
 
 -- it answers 0 only where the stream is accepted and no list is short
 call_accepted : (s : List ℕ) (L : SetLent) → (read_call s L).answer.number ≡ 0 → (zss : List (List ℤ)) × (AcceptedStream zss s) × (short_set zss L ≡ false)
@@ -95,7 +94,7 @@ pub refused_untouched : (s : List ℕ) (L : SetLent) → ((read_call s L).answer
 unfolding read_with
 refused_untouched s L = go (reading s)
   where
-    untouched : Outcome ReadFields SetLent → Type 0
+    untouched : Outcome (Fields Size) SetLent → Type 0
     untouched o = (o.lent ≡ L) × (o.answer.size ≡ record { outlines = 0; vertices = 0 })
 
     short : (zss : List (List ℤ)) (b : Bool) → ((answered_if b zss L).answer.number ≡ 0 → ⊥) → untouched (answered_if b zss L)

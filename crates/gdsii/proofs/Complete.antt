@@ -8,8 +8,7 @@ use lib.Dec.{eqb}
 use lib.IntN.{ℤ}
 use lib.ListN.{length}
 use Rattle.lists.specs.Lists.{Every}
-use Rattle.accept.specs.declared.Test.TheVariants.{Passed}
-use Rattle.accept.specs.Refusals.{given}
+use Rattle.accept.specs.Refusals.{all_passed, given}
 use Rattle.stream.specs.declared.Awaited.{Awaited}
 use Rattle.stream.specs.declared.Awaited.TheVariants.{Header, Bgnlib, Libname, Units, Bgnstr, Strname, Element, Layer, Datatype, Xy, Endel, Endlib, Nothing, Astray}
 use Rattle.stream.specs.Bytes.{steps_in}
@@ -29,7 +28,7 @@ record Passes (asked : Awaited) (t : ℕ) (then : Awaited) (past : List (List �
   ordered : astray then ≡ false
   fitting : misfit t (length d) ≡ false
   measured : (eqb t UNITS && other_unit d) ≡ false
-  joins : cond (eqb t XY) (joining_tested past (steps_in d)) Passed ≡ Passed
+  joins : cond (eqb t XY) (joining_tested past (steps_in d)) all_passed ≡ all_passed
 
 -- then what follows is read
 record_read_lem : (n : ℕ) {asked : Awaited} {t : ℕ} {then : Awaited} {past : List (List ℤ)} {d s m : List ℕ}

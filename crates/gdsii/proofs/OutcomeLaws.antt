@@ -1,4 +1,5 @@
 -- What the call leaves, from what the first pass finds. Assumes nothing.
+use Rattle.std.proofs.Common.{Ok, Err}
 use mathlib.Core.Path.{◌≡◌, refl, sym, ap}
 use mathlib.Core.Bool.{Bool, true, false, ◌||◌}
 use mathlib.Core.List.{List}
@@ -12,18 +13,17 @@ use Rattle.lists.proofs.FoldLaws.{or_none}
 use Rattle.accept.specs.declared.Refusal.{Refusal}
 use Rattle.accept.specs.declared.Refusal.TheVariants.{ShortBuffer}
 use Rattle.gdsii.specs.declared.Size.{Size}
-use Rattle.gdsii.specs.declared.Judged.TheVariants.{Refused, Found}
 use Rattle.gdsii.specs.Reading.{Reading, turned_down, read_as, reading}
 use Rattle.gdsii.specs.Answers.{SetLent, set_size, measured, short_set, read_with, read_outcome}
 use Rattle.gdsii.specs.Work.{SignsOf, RoomForSet, Wrote}
 use Rattle.gdsii.proofs.SizeLaws.{set_even}
 
 -- ---- refused
-measured_refused : (r : Reading) (q : Refusal) → measured r ≡ Refused q → r ≡ turned_down q
+measured_refused : (r : Reading) (q : Refusal) → measured r ≡ Err q → r ≡ turned_down q
 measured_refused (turned_down p) q e = let h : p ≡ q = cc in rw h
 measured_refused (read_as zss) q e = absurd (let z : ◌≡◌ {A = ℕ} 0 1 = cc in omega arith)
 
-pub call_refused : (s : List ℕ) (L : SetLent) {q : Refusal} → Refused q ≡ measured (reading s) → record { answer = Refused q; lent = L } ≡ read_outcome s L
+pub call_refused : (s : List ℕ) (L : SetLent) {q : Refusal} → Err q ≡ measured (reading s) → record { answer = Err q; lent = L } ≡ read_outcome s L
 unfolding read_with
 call_refused s L {q} e = rw (measured_refused (reading s) q (sym e))
 
@@ -33,7 +33,7 @@ pub record FoundSet (r : Reading) (n : Size) : Type 0 where
   pub read : r ≡ read_as outlines
   pub size : set_size outlines ≡ n
 
-pub measured_found : (r : Reading) (n : Size) → Found n ≡ measured r → FoundSet r n
+pub measured_found : (r : Reading) (n : Size) → Ok n ≡ measured r → FoundSet r n
 measured_found (turned_down q) n e = absurd (let z : ◌≡◌ {A = ℕ} 0 1 = cc in omega arith)
 measured_found (read_as zss) n e = record { outlines = zss; read = refl; size = cc }
 
@@ -45,7 +45,7 @@ module _ (s : List ℕ) (L : SetLent) (n : Size) (h : FoundSet (reading s) n) wh
   short_is : short_set h.outlines L ≡ too_short
   short_is = rw (set_even h.outlines, ← h.size)
 
-  pub call_short : too_short ≡ true → record { answer = Refused ShortBuffer; lent = L } ≡ read_outcome s L
+  pub call_short : too_short ≡ true → record { answer = Err ShortBuffer; lent = L } ≡ read_outcome s L
   unfolding read_with
   call_short e = rw (h.read, short_is, e)
 
@@ -60,6 +60,6 @@ module _ (s : List ℕ) (L : SetLent) (n : Size) (h : FoundSet (reading s) n) wh
         let o = ap (λ (z : Size). z.outlines) h.size in
         record { outlines = h.outlines; many = sym o; read = h.read; signs = g h.outlines h.read; wide = omega arith; long = omega arith }
 
-    pub call_found : {M : SetLent} → Wrote s L M → record { answer = Found n; lent = M } ≡ read_outcome s L
+    pub call_found : {M : SetLent} → Wrote s L M → record { answer = Ok n; lent = M } ≡ read_outcome s L
     unfolding read_with
     call_found w = rw (h.read, short_is, room, w h.outlines h.read, h.size)

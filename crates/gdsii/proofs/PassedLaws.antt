@@ -12,8 +12,7 @@ use Rattle.lists.proofs.FoldLaws.{or_none, any_never, every_fails, any_same}
 use Rattle.lists.proofs.MemberLaws.{each_all}
 use Rattle.boundary.specs.Outline.{count}
 use Rattle.accept.specs.declared.Refusal.TheVariants.{TooMany, BadRecord, OtherUnit}
-use Rattle.accept.specs.declared.Test.TheVariants.{Passed}
-use Rattle.accept.specs.Refusals.{◌refusing◌when◌}
+use Rattle.accept.specs.Refusals.{all_passed, ◌refusing◌when◌}
 use Rattle.accept.proofs.TestLaws.{refusing_passed}
 use Rattle.set.specs.Tests.{over_size}
 use Rattle.stream.specs.declared.Awaited.{Awaited}
@@ -32,19 +31,19 @@ pub record Clean (then : Awaited) (s : List ℕ) : Type 0 where
   pub fitting : misfit (record_type s) (length (record_data s)) ≡ false
   pub measured : (eqb (record_type s) UNITS && other_unit (record_data s)) ≡ false
 
-pub passed_clean : (then : Awaited) (s : List ℕ) → record_tested then s ≡ Passed → Clean then s
+pub passed_clean : (then : Awaited) (s : List ℕ) → record_tested then s ≡ all_passed → Clean then s
 unfolding record_tested
 passed_clean then s e =
     let fits = misfit (record_type s) (length (record_data s)) in
-    let t₁ = Passed refusing BadRecord when cut_short s in
+    let t₁ = all_passed refusing BadRecord when cut_short s in
     let t₂ = t₁ refusing BadRecord when astray then in
     let t₃ = t₂ refusing BadRecord when fits in
     let e₄ = refusing_passed t₃ OtherUnit (eqb (record_type s) UNITS && other_unit (record_data s)) e in
     let e₃ = refusing_passed t₂ BadRecord fits e₄.0 in
     let e₂ = refusing_passed t₁ BadRecord (astray then) e₃.0 in
-    record { whole = (refusing_passed Passed BadRecord (cut_short s) e₂.0).1; ordered = e₂.1; fitting = e₃.1; measured = e₄.1 }
+    record { whole = (refusing_passed all_passed BadRecord (cut_short s) e₂.0).1; ordered = e₂.1; fitting = e₃.1; measured = e₄.1 }
 
-pub clean_passed : {then : Awaited} {s : List ℕ} → Clean then s → record_tested then s ≡ Passed
+pub clean_passed : {then : Awaited} {s : List ℕ} → Clean then s → record_tested then s ≡ all_passed
 unfolding record_tested ◌refusing◌when◌
 clean_passed c = rw (c.whole, c.ordered, c.fitting, c.measured)
 
@@ -92,14 +91,14 @@ pub record Joined (zss : List (List ℤ)) (zs : List ℤ) : Type 0 where
   pub made : Makes zs
   pub small : Small (zss ++ zs ∷ [])
 
-pub passed_joined : (zss : List (List ℤ)) (zs : List ℤ) → joining_tested zss zs ≡ Passed → Joined zss zs
+pub passed_joined : (zss : List (List ℤ)) (zs : List ℤ) → joining_tested zss zs ≡ all_passed → Joined zss zs
 unfolding joining_tested
 passed_joined zss zs e =
     let yss = zss ++ zs ∷ [] in
     let h = refusing_passed (xy_tested zs) TooMany (over_size (set_of yss) (counts_of yss)) e in
     record { within = near_within zs (tested_near zs h.0); made = tested_makes zs h.0; small = sized_small yss h.1 }
 
-pub joined_passed : {zss : List (List ℤ)} {zs : List ℤ} → Joined zss zs → joining_tested zss zs ≡ Passed
+pub joined_passed : {zss : List (List ℤ)} {zs : List ℤ} → Joined zss zs → joining_tested zss zs ≡ all_passed
 unfolding joining_tested ◌refusing◌when◌
 joined_passed {zss} {zs} j =
     let t = near_makes_tested zs (within_near zs j.within) j.made in

@@ -1,4 +1,5 @@
 -- The record at a place of a stream: its data, what stands after it, and what its tests say. Assumes nothing.
+use Rattle.std.proofs.Common.{Err}
 use mathlib.Core.Path.{◌≡◌, refl, sym, ap, ◌∙◌}
 use mathlib.Core.Bool.{Bool, true, false, ◌&&◌, ◌||◌}
 use mathlib.Core.List.{List}
@@ -10,8 +11,7 @@ use lib.ListN.{length, take, drop, length-drop}
 use lib.Seq.{length-take-le, take-take, drop-drop}
 use Rattle.lists.proofs.FoldLaws.{or_none}
 use Rattle.accept.specs.declared.Refusal.TheVariants.{BadRecord, OtherUnit}
-use Rattle.accept.specs.declared.Test.TheVariants.{Passed, Failed}
-use Rattle.accept.specs.Refusals.{◌refusing◌when◌}
+use Rattle.accept.specs.Refusals.{all_passed, ◌refusing◌when◌}
 use Rattle.accept.proofs.TestLaws.{refusing_passed}
 use Rattle.stream.specs.declared.Awaited.{Awaited}
 use Rattle.stream.specs.Bytes.{pair_at, steps_in}
@@ -40,7 +40,7 @@ pub whole_at : (s : List ℕ) (at n : ℕ) → record_cut s at n ≡ false → (
 whole_at s at n e = let h = or_none (ltb n 4) (ltb (length s - at) n) e in (ltb-false n 4 h.0, ltb-false (length s - at) n h.1)
 
 -- fewer than four bytes are no record
-pub none_left : (s : List ℕ) (then : Awaited) → length s < 4 → record_tested then s ≡ Failed BadRecord
+pub none_left : (s : List ℕ) (then : Awaited) → length s < 4 → record_tested then s ≡ Err BadRecord
 unfolding record_tested ◌refusing◌when◌
 none_left s then l = rw (cut (ltb (record_size s) 4) refl)
   where
@@ -63,7 +63,7 @@ module _ (s : List ℕ) (at t n : ℕ) (then : Awaited) (A : AtRecord s at t n) 
   cut_at : cut_short x ≡ record_cut s at n
   cut_at = rw (← A.size, length-drop at s)
 
-  pub cut_refused : record_cut s at n ≡ true → record_tested then x ≡ Failed BadRecord
+  pub cut_refused : record_cut s at n ≡ true → record_tested then x ≡ Err BadRecord
   unfolding record_tested ◌refusing◌when◌
   cut_refused e = rw (cut_at, e)
 
@@ -75,12 +75,12 @@ module _ (s : List ℕ) (at t n : ℕ) (then : Awaited) (A : AtRecord s at t n) 
     abbrev astray_at : Bool
     astray_at = astray then || misfit t (n - 4)
 
-    pub order_refused : astray_at ≡ true → record_tested then x ≡ Failed BadRecord
+    pub order_refused : astray_at ≡ true → record_tested then x ≡ Err BadRecord
     unfolding record_tested ◌refusing◌when◌
     order_refused e = rw (cut_at, whole, data_length, ← A.type) (go (astray then) (misfit t (n - 4)) e)
       where
         go : (a b : Bool) → (a || b) ≡ true
-            → (Passed refusing BadRecord when a refusing BadRecord when b refusing OtherUnit when (eqb t UNITS && other_unit (record_data x))) ≡ Failed BadRecord
+            → (all_passed refusing BadRecord when a refusing BadRecord when b refusing OtherUnit when (eqb t UNITS && other_unit (record_data x))) ≡ Err BadRecord
         go true b e = refl
         go false b e = rw e
 
@@ -93,7 +93,7 @@ module _ (s : List ℕ) (at t n : ℕ) (then : Awaited) (A : AtRecord s at t n) 
         go false u = refl
         go true u = let k = units_sixteen t (n - 4) (eqb-true t UNITS u) e in rw (k, take-take 8 16 (drop (at + 4) s) (omega arith))
 
-    pub order_passed : astray_at ≡ false → record_tested then x ≡ (Passed refusing OtherUnit when (eqb t UNITS && other_unit (drop (at + 4) s)))
+    pub order_passed : astray_at ≡ false → record_tested then x ≡ (all_passed refusing OtherUnit when (eqb t UNITS && other_unit (drop (at + 4) s)))
     unfolding record_tested ◌refusing◌when◌
     order_passed e =
         let h = or_none (astray then) (misfit t (n - 4)) e in
@@ -104,7 +104,7 @@ module _ (s : List ℕ) (at t n : ℕ) (then : Awaited) (A : AtRecord s at t n) 
     unit_room e u = let k = units_sixteen t (n - 4) (eqb-true t UNITS u) (or_none (astray then) (misfit t (n - 4)) e).1 in let h = whole_at s at n whole in let w = A.within in omega arith
 
   -- ---- where 16 and 17 are passed
-  record_passed : record_tested then x ≡ Passed → (record_cut s at n ≡ false) × (misfit t (n - 4) ≡ false)
+  record_passed : record_tested then x ≡ all_passed → (record_cut s at n ≡ false) × (misfit t (n - 4) ≡ false)
   unfolding record_tested
   record_passed e =
       let a = (refusing_passed _ OtherUnit _ e).0 in
@@ -113,18 +113,18 @@ module _ (s : List ℕ) (at t n : ℕ) (then : Awaited) (A : AtRecord s at t n) 
       let whole = sym cut_at ∙ (refusing_passed _ BadRecord _ c).1 in
       (whole, rw (← A.type, data_length whole) at b.1)
 
-  pub passed_whole : record_tested then x ≡ Passed → (4 ≤ n) × (n ≤ length s - at)
+  pub passed_whole : record_tested then x ≡ all_passed → (4 ≤ n) × (n ≤ length s - at)
   passed_whole e = whole_at s at n (record_passed e).0
 
   -- an XY's data are the vertices from its place on
-  pub outline_room : record_tested then x ≡ Passed → eqb t XY ≡ true → at + 4 + 8 * ((n - 4) / 8) ≤ length s
+  pub outline_room : record_tested then x ≡ all_passed → eqb t XY ≡ true → at + 4 + 8 * ((n - 4) / 8) ≤ length s
   outline_room e u =
       let k = xy_multiple t (n - 4) (eqb-true t XY u) (record_passed e).1 in
       let h = passed_whole e in
       let w = A.within in
       omega arith
 
-  pub outline_place : record_tested then x ≡ Passed → eqb t XY ≡ true → steps_in (record_data x) ≡ steps_from s (at + 4) ((n - 4) / 8)
+  pub outline_place : record_tested then x ≡ all_passed → eqb t XY ≡ true → steps_in (record_data x) ≡ steps_from s (at + 4) ((n - 4) / 8)
   outline_place e u =
       let k = xy_multiple t (n - 4) (eqb-true t XY u) (record_passed e).1 in
       let m : n - 4 ≡ 8 * ((n - 4) / 8) = omega arith in

@@ -19,8 +19,7 @@ use Rattle.boundary.specs.declared.Point.{Point}
 use Rattle.boundary.specs.declared.Edge.{Edge}
 use Rattle.boundary.specs.Outline.{count, vertex_at, same_point, after, edge_at, edges}
 use Rattle.accept.specs.declared.Refusal.TheVariants.{NegativeArea}
-use Rattle.accept.specs.declared.Test.TheVariants.{Passed}
-use Rattle.accept.specs.Refusals.{negative_area, shape_tested, outline_tested}
+use Rattle.accept.specs.Refusals.{all_passed, negative_area, shape_tested, outline_tested}
 use Rattle.accept.proofs.TestLaws.{refusing_passed, Shape, shape}
 use Rattle.geometry.specs.Making.{closed, kept, turned, made_of}
 use Rattle.geometry.proofs.CoordinateLaws.{numbers_vertices}
@@ -36,11 +35,11 @@ use Rattle.gdsii.proofs.Theorems.{holds_accepted}
 -- an outline in steps that making leaves as it is: within the reach, and tests 1 to 9 pass
 pub record AsMade (zs : List ℤ) : Type 0 where
   pub within : WithinReach zs
-  pub accepted : outline_tested (numbers_of zs) ≡ Passed
+  pub accepted : outline_tested (numbers_of zs) ≡ all_passed
 
 -- ---- what the tests tell of it
 module _ (zs : List ℤ) (m : AsMade zs) where
-  tested_parts : (shape_tested (numbers_of zs) ≡ Passed) × (negative_area (numbers_of zs) ≡ false)
+  tested_parts : (shape_tested (numbers_of zs) ≡ all_passed) × (negative_area (numbers_of zs) ≡ false)
   unfolding outline_tested
   tested_parts = refusing_passed (shape_tested (numbers_of zs)) NegativeArea (negative_area (numbers_of zs)) m.accepted
 

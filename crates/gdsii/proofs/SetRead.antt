@@ -17,8 +17,7 @@ use Rattle.lists.proofs.MemberLaws.{each_all, every_both}
 use Rattle.lists.proofs.RunLaws.{run_later}
 use Rattle.boundary.specs.Outline.{count}
 use Rattle.accept.specs.declared.Refusal.TheVariants.{NegativeArea}
-use Rattle.accept.specs.declared.Test.TheVariants.{Passed}
-use Rattle.accept.specs.Refusals.{◌refusing◌when◌, not_finite, outside_field, equal_neighbours, zero_area, negative_area, shape_tested, outline_tested}
+use Rattle.accept.specs.Refusals.{all_passed, ◌refusing◌when◌, not_finite, outside_field, equal_neighbours, zero_area, negative_area, shape_tested, outline_tested}
 use Rattle.accept.proofs.TestLaws.{Shape, shape, outline_shape_passed, refusing_passed}
 use Rattle.geometry.specs.Making.{kept, made_of}
 use Rattle.grid.specs.Grid.{OutlineOn}
@@ -109,7 +108,7 @@ none_passes p f xs h = any_same p (λ x. false) (map f xs) (every_map xs h) ∙ 
     every_map [] h = tt
     every_map (x ∷ xs) h = (h.0, every_map xs h.1)
 
-positive : (o : Outline) → outline_tested o ≡ Passed → negative_area o ≡ false
+positive : (o : Outline) → outline_tested o ≡ all_passed → negative_area o ≡ false
 unfolding outline_tested
 positive o e = (refusing_passed (shape_tested o) NegativeArea (negative_area o) e).1
 
@@ -125,7 +124,7 @@ module _ {zss : List (List ℤ)} {s : List ℕ} (a : AcceptedStream zss s) where
   unfolding counts_of
   no_count_lem p h = none_passes p made_count zss (each_all zss h a.made)
 
-  no_outline : (p : Outline → Bool) → ((o : Outline) → outline_tested o ≡ Passed → p o ≡ false) → any p (outlines_of v cs) ≡ false
+  no_outline : (p : Outline → Bool) → ((o : Outline) → outline_tested o ≡ all_passed → p o ≡ false) → any p (outlines_of v cs) ≡ false
   no_outline p h =
       rw (read_outlines zss)
       (none_passes p (λ zs. made_of (numbers_of zs)) zss
@@ -139,7 +138,7 @@ module _ {zss : List (List ℤ)} {s : List ℕ} (a : AcceptedStream zss s) where
   all_added = let h = start_all (λ zs. made_of (numbers_of zs)) made_count (λ zs. made_length (numbers_of zs)) zss in omega arith
 
   -- 1 to 4
-  lists_pass : lists_tested v cs ≡ Passed
+  lists_pass : lists_tested v cs ≡ all_passed
   unfolding lists_tested ◌refusing◌when◌
   lists_pass =
       let e = set_even zss in
@@ -155,7 +154,7 @@ module _ {zss : List (List ℤ)} {s : List ℕ} (a : AcceptedStream zss s) where
       )
 
   -- and 5 to 9
-  pub read_passes : set_tested v cs ≡ Passed
+  pub read_passes : set_tested v cs ≡ all_passed
   unfolding set_tested outlines_tested ◌refusing◌when◌
   read_passes = rw (
     lists_pass,

@@ -1,4 +1,5 @@
 -- What is read of a stream, the format has. Assumes nothing.
+use Rattle.std.proofs.Common.{Err, Ok}
 use mathlib.Core.Path.{◌≡◌, refl, sym, ap, ◌∙◌}
 use mathlib.Core.Bool.{Bool, true, false, cond, true≢false}
 use mathlib.Core.List.{List, [], ◌∷◌, ◌++◌, append-nil, append_assoc}
@@ -9,9 +10,7 @@ use lib.IntN.{ℤ}
 use lib.ListN.{length}
 use Rattle.lists.specs.Lists.{Every}
 use Rattle.accept.specs.declared.Refusal.{Refusal}
-use Rattle.accept.specs.declared.Test.{Test}
-use Rattle.accept.specs.declared.Test.TheVariants.{Passed, Failed}
-use Rattle.accept.specs.Refusals.{given}
+use Rattle.accept.specs.Refusals.{Test, all_passed, given}
 use Rattle.accept.proofs.TestLaws.{both_passed}
 use Rattle.stream.specs.declared.Awaited.{Awaited}
 use Rattle.stream.specs.declared.Awaited.TheVariants.{Header, Bgnlib, Libname, Units, Bgnstr, Strname, Element, Layer, Datatype, Xy, Endel, Endlib, Nothing, Astray}
@@ -33,16 +32,16 @@ turned_away (read_as zss) = false
 pub not_holding : {r : Refusal} {zss : List (List ℤ)} → turned_down r ≡ read_as zss → ⊥
 not_holding e = true≢false (ap turned_away e)
 
-given_holding : (t : Test) (a : Reading) (zss : List (List ℤ)) → given t a turned_down ≡ read_as zss → (t ≡ Passed) × (a ≡ read_as zss)
+given_holding : (t : Test) (a : Reading) (zss : List (List ℤ)) → given t a turned_down ≡ read_as zss → (t ≡ all_passed) × (a ≡ read_as zss)
 unfolding given
-given_holding Passed a zss e = (refl, e)
-given_holding (Failed r) a zss e = absurd (not_holding e)
+given_holding (Ok _) a zss e = (refl, e)
+given_holding (Err r) a zss e = absurd (not_holding e)
 
 -- it passes the tests; then what follows is read
 record Taken (n : ℕ) (asked : Awaited) (past : List (List ℤ)) (s : List ℕ) (zss : List (List ℤ)) : Type 0 where
   good : Clean (asked_after asked (record_type s)) s
   here : Record (record_type s) (record_data s) s (after_record s)
-  joins : cond (eqb (record_type s) XY) (joining_tested past (steps_in (record_data s))) Passed ≡ Passed
+  joins : cond (eqb (record_type s) XY) (joining_tested past (steps_in (record_data s))) all_passed ≡ all_passed
   on : read_by n (asked_after asked (record_type s)) (with_record past s) (after_record s) ≡ read_as zss
 
 taken : (n : ℕ) (asked : Awaited) (past : List (List ℤ)) (s : List ℕ) (zss : List (List ℤ))
@@ -53,7 +52,7 @@ taken n asked past s zss e q =
     let next = read_by n then (with_record past s) (after_record s) in
     let g : given (all_tested then past s) next turned_down ≡ read_as zss = rw e at q in
     let h = given_holding (all_tested then past s) next zss g in
-    let b = both_passed (record_tested then s) (cond (eqb (record_type s) XY) (joining_tested past (steps_in (record_data s))) Passed) h.0 in
+    let b = both_passed (record_tested then s) (cond (eqb (record_type s) XY) (joining_tested past (steps_in (record_data s))) all_passed) h.0 in
     let c = passed_clean then s b.0 in
     record { good = c; here = opens_record s c.whole; joins = b.1; on = h.1 }
 
@@ -137,7 +136,7 @@ module _ (n : ℕ) (on : Sound n) where
       let zs = steps_in (record_data s) in
       let here : Record XY (record_data s) s (after_record s) = rw w at h.here in
       let m = xy_multiple (record_type s) (length (record_data s)) w h.good.fitting in
-      let passed : joining_tested past zs ≡ Passed = rw x at h.joins in
+      let passed : joining_tested past zs ≡ all_passed = rw x at h.joins in
       let j = passed_joined past zs passed in
       let r = on Endel (past ++ zs ∷ []) (after_record s) zss (rw (k, more_past past s x) at h.on) in
       record {

@@ -7,8 +7,7 @@ use native.Mathlib.Omega.{arith}
 use lib.Dec.{eqb}
 use lib.IntN.{ℤ}
 use Rattle.accept.specs.declared.Refusal.{Refusal}
-use Rattle.accept.specs.declared.Test.TheVariants.{Passed}
-use Rattle.accept.specs.Refusals.{given}
+use Rattle.accept.specs.Refusals.{all_passed, given}
 use Rattle.accept.proofs.TestLaws.{both_passed}
 use Rattle.stream.specs.declared.Awaited.{Awaited}
 use Rattle.stream.specs.Bytes.{steps_in}
@@ -40,7 +39,7 @@ one_record zero l e q = absurd (omega arith)
 one_record (suc n) l e q = record { fuel = n; one = refl; read = rw e at q }
 
 -- all tests of a record are passed: 16 and 17, and those of its outline where it has one
-pub tests_passed : (then : Awaited) (zss : List (List ℤ)) (s : List ℕ) → all_tested then zss s ≡ Passed
-    → (record_tested then s ≡ Passed) × (cond (eqb (record_type s) XY) (joining_tested zss (steps_in (record_data s))) Passed ≡ Passed)
+pub tests_passed : (then : Awaited) (zss : List (List ℤ)) (s : List ℕ) → all_tested then zss s ≡ all_passed
+    → (record_tested then s ≡ all_passed) × (cond (eqb (record_type s) XY) (joining_tested zss (steps_in (record_data s))) all_passed ≡ all_passed)
 unfolding all_tested
 tests_passed then zss s e = both_passed _ _ e

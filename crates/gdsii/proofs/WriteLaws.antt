@@ -1,4 +1,5 @@
 -- The second pass over a stream: the outlines read so far stand in the lists, and what is left is accepted. Assumes nothing.
+use Rattle.std.proofs.Common.{Err, Ok}
 use mathlib.Core.Path.{◌≡◌, refl, sym, ap, ap₂, ◌∙◌}
 use mathlib.Core.Bool.{Bool, true, false, cond}
 use mathlib.Core.List.{List, [], ◌∷◌, ◌++◌, append-nil, append_assoc}
@@ -14,9 +15,7 @@ use Rattle.lists.specs.Lists.{at_front}
 use Rattle.lists.proofs.FoldLaws.{or_none}
 use Rattle.lists.proofs.StoreLaws.{sets_append, sets_front}
 use Rattle.accept.specs.declared.Refusal.TheVariants.{TooMany}
-use Rattle.accept.specs.declared.Test.{Test}
-use Rattle.accept.specs.declared.Test.TheVariants.{Passed, Failed}
-use Rattle.accept.specs.Refusals.{given}
+use Rattle.accept.specs.Refusals.{Test, all_passed, given}
 use Rattle.accept.proofs.TestLaws.{given_passed, refusing_passed}
 use Rattle.geometry.specs.Making.{made_of}
 use Rattle.stream.specs.declared.Awaited.{Awaited}
@@ -61,10 +60,10 @@ none_of : {A : Type 0} (xs : List A) → length xs ≡ 0 → xs ≡ []
 none_of [] e = refl
 none_of (x ∷ xs) e = absurd (omega arith)
 
-passed_held : (t : Test) (r : Reading) (zss : List (List ℤ)) → given t r turned_down ≡ read_as zss → t ≡ Passed
+passed_held : (t : Test) (r : Reading) (zss : List (List ℤ)) → given t r turned_down ≡ read_as zss → t ≡ all_passed
 unfolding given
-passed_held Passed r zss e = refl
-passed_held (Failed q) r zss e = absurd (down_not_held q zss e)
+passed_held (Ok _) r zss e = refl
+passed_held (Err q) r zss e = absurd (down_not_held q zss e)
 
 module _ {s : List ℕ} {n : ℕ} {S : List ℕ} {X₀ : List Float} {C₀ : List ℕ} {at : ℕ} {so : Size} {X : List Float} {C : List ℕ} (w : Writing s n S X₀ C₀ at so X C) where
   abbrev all : List (List ℤ)
@@ -121,10 +120,10 @@ module _ {s : List ℕ} {n : ℕ} {S : List ℕ} {X₀ : List Float} {C₀ : Lis
     next : Next w.fuel w.asked w.past (drop at s) (read_as all)
     next = let l = w.enough in one_record w.fuel (omega arith) more w.left
 
-    passed : all_tested then w.past (drop at s) ≡ Passed
+    passed : all_tested then w.past (drop at s) ≡ all_passed
     passed = passed_held _ _ all next.read
 
-    tests : (record_tested then (drop at s) ≡ Passed) × (cond (eqb (record_type (drop at s)) XY) (joining_tested w.past (steps_in (record_data (drop at s)))) Passed ≡ Passed)
+    tests : (record_tested then (drop at s) ≡ all_passed) × (cond (eqb (record_type (drop at s)) XY) (joining_tested w.past (steps_in (record_data (drop at s)))) all_passed ≡ all_passed)
     tests = tests_passed then w.past (drop at s) passed
 
     -- the record's length and type stand in the stream
@@ -171,7 +170,7 @@ module _ {s : List ℕ} {n : ℕ} {S : List ℕ} {X₀ : List Float} {C₀ : Lis
         unfolding with_record
         longer = rw (← A.type, u, is_steps)
 
-        joining : joining_tested w.past zs ≡ Passed
+        joining : joining_tested w.past zs ≡ all_passed
         joining = rw (← A.type, u, is_steps) at tests.1
 
         small : Small (w.past ++ zs ∷ [])

@@ -2,8 +2,7 @@
 use Rattle.std.specs.Prelude.{◌≡◌, List, ℕ, ◌≤◌, ℤ, nat_abs, length}
 use Rattle.lists.specs.Lists.{Every}
 use Rattle.boundary.specs.Outline.{count}
-use Rattle.accept.specs.declared.Test.TheVariants.{Passed}
-use Rattle.accept.specs.Refusals.{shape_tested}
+use Rattle.accept.specs.Refusals.{all_passed, shape_tested}
 use Rattle.geometry.specs.Making.{kept}
 use Rattle.stream.specs.Format.{Stream}
 use Rattle.stream.specs.Records.{right_unit}
@@ -16,7 +15,7 @@ WithinReach zs = Every (λ z. nat_abs z ≤ 1048576) zs
 
 -- making accepts the outline
 abbrev pub Makes : List ℤ → Type 0
-Makes zs = shape_tested (kept (numbers_of zs)) ≡ Passed
+Makes zs = shape_tested (kept (numbers_of zs)) ≡ all_passed
 
 -- s is of the format with the right unit, its coordinates are in range, making accepts its outlines, and the set is within its sizes
 pub record AcceptedStream (zss : List (List ℤ)) (s : List ℕ) : Type 0 where

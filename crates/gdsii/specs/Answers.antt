@@ -1,23 +1,20 @@
 -- What the call leaves: its fields, and both lent lists (document 02, U3). Definitions only.
-use Rattle.std.specs.Prelude.{Bool, cond, ◌||◌, List, ℕ, ◌*◌, ltb, ℤ, length, take, Float}
+use Rattle.std.specs.Prelude.{Bool, cond, ◌||◌, List, ℕ, ◌*◌, ltb, ℤ, length, take, Ok, Err, Float}
 use Rattle.lists.specs.Lists.{at_front}
 use Rattle.boundary.specs.Outline.{count}
 use Rattle.accept.specs.declared.Refusal.TheVariants.{ShortBuffer}
-use Rattle.accept.specs.Answers.{Outcome, in_fields}
-use Rattle.accept.specs.Refusals.{number}
+use Rattle.accept.specs.Answers.{Outcome, in_fields, Fields}
+use Rattle.accept.specs.Refusals.{Answer, number}
 use Rattle.gdsii.specs.declared.Size.{Size}
-use Rattle.gdsii.specs.declared.Judged.{Judged}
-use Rattle.gdsii.specs.declared.Judged.TheVariants.{Refused, Found}
-use Rattle.gdsii.specs.declared.ReadFields.{ReadFields}
 use Rattle.gdsii.specs.Reading.{set_of, counts_of, Reading, turned_down, read_as, reading}
 
 -- how many outlines and vertices a set has
 abbrev pub set_size : List (List ℤ) → Size
 set_size zss = record { outlines = length zss; vertices = count (set_of zss) }
 
-abbrev pub measured : Reading → Judged
-measured (turned_down r) = Refused r
-measured (read_as zss) = Found (set_size zss)
+abbrev pub measured : Reading → Answer Size
+measured (turned_down r) = Err r
+measured (read_as zss) = Ok (set_size zss)
 
 -- the two lists that a call is lent
 pub record SetLent : Type 0 where
@@ -36,22 +33,22 @@ abbrev pub written : List (List ℤ) → SetLent → SetLent
 written zss L = set_lent (at_front (set_of zss) L.vertices) (at_front (counts_of zss) L.counts)
 
 -- a stream's refusal, then 13, then the set that it holds; unless all is accepted nothing is written
-unfoldable pub read_with : Reading → SetLent → Outcome Judged SetLent
-read_with (turned_down r) L = record { answer = Refused r; lent = L }
+unfoldable pub read_with : Reading → SetLent → Outcome (Answer Size) SetLent
+read_with (turned_down r) L = record { answer = Err r; lent = L }
 read_with (read_as zss) L =
     cond (short_set zss L)
-    (record { answer = Refused ShortBuffer; lent = L })
-    (record { answer = Found (set_size zss); lent = written zss L })
+    (record { answer = Err ShortBuffer; lent = L })
+    (record { answer = Ok (set_size zss); lent = written zss L })
 
-abbrev pub read_outcome : List ℕ → SetLent → Outcome Judged SetLent
+abbrev pub read_outcome : List ℕ → SetLent → Outcome (Answer Size) SetLent
 read_outcome s L = read_with (reading s) L
 
 -- the same as a call leaves it: a refusal gives its number and zeros
-abbrev pub read_fields : Judged → ReadFields
-read_fields (Refused r) = record { number = number r; size = record { outlines = 0; vertices = 0 } }
-read_fields (Found n) = record { number = 0; size = n }
+abbrev pub read_fields : Answer Size → (Fields Size)
+read_fields (Err r) = record { number = number r; size = record { outlines = 0; vertices = 0 } }
+read_fields (Ok n) = record { number = 0; size = n }
 
-abbrev pub read_call : List ℕ → SetLent → Outcome ReadFields SetLent
+abbrev pub read_call : List ℕ → SetLent → Outcome (Fields Size) SetLent
 read_call s L = in_fields read_fields (read_outcome s L)
 
 -- the set in the lists that a call leaves: the first 2 x vertex_count numbers, the first outline_count counts

@@ -1,11 +1,9 @@
 -- What every stream is answered, record after record in stream order: the outlines that it holds, or a refusal (document 02, U3). Definitions only.
-use Rattle.std.specs.Prelude.{◌&&◌, cond, ℕ, zero, suc, eqb, ℤ, length, Float}
+use Rattle.std.specs.Prelude.{◌&&◌, cond, ℕ, zero, suc, eqb, ℤ, length, Err, Float}
 use mathlib.Core.List.{List, [], ◌∷◌, ◌++◌, map, flat_map}
 use Rattle.accept.specs.declared.Refusal.{Refusal}
 use Rattle.accept.specs.declared.Refusal.TheVariants.{TooMany, BadRecord, OtherUnit}
-use Rattle.accept.specs.declared.Test.{Test}
-use Rattle.accept.specs.declared.Test.TheVariants.{Passed, Failed}
-use Rattle.accept.specs.Refusals.{◌refusing◌when◌, given}
+use Rattle.accept.specs.Refusals.{Test, all_passed, ◌refusing◌when◌, given}
 use Rattle.geometry.specs.Making.{kept, made_of}
 use Rattle.set.specs.Tests.{over_size}
 use Rattle.stream.specs.declared.Awaited.{Awaited}
@@ -29,7 +27,7 @@ counts_of zss = map made_count zss
 -- 16 and 17, where `then` is asked for after its type
 unfoldable pub record_tested : Awaited → List ℕ → Test
 record_tested then s =
-    Passed
+    all_passed
     refusing BadRecord when cut_short s
     refusing BadRecord when astray then
     refusing BadRecord when misfit (record_type s) (length (record_data s))
@@ -41,7 +39,7 @@ joining_tested zss zs = xy_tested zs refusing TooMany when over_size (set_of (zs
 
 -- all of them, after the outlines zss
 unfoldable pub all_tested : Awaited → List (List ℤ) → List ℕ → Test
-all_tested then zss s = given (record_tested then s) (cond (eqb (record_type s) XY) (joining_tested zss (steps_in (record_data s))) Passed) Failed
+all_tested then zss s = given (record_tested then s) (cond (eqb (record_type s) XY) (joining_tested zss (steps_in (record_data s))) all_passed) Err
 
 -- ---- one record after another
 -- the outlines with that of the record: an XY has one

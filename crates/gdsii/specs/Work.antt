@@ -1,9 +1,8 @@
 -- What the two passes over a stream keep to. Definitions only.
-use Rattle.std.specs.Prelude.{◌≡◌, cond, ◌||◌, List, [], ℕ, ◌+◌, ◌*◌, ◌≤◌, ◌<◌, eqb, ltb, ℤ, length, drop, get_or, set}
+use Rattle.std.specs.Prelude.{◌≡◌, cond, ◌||◌, List, [], ℕ, ◌+◌, ◌*◌, ◌≤◌, ◌<◌, eqb, ltb, ℤ, length, drop, get_or, set, Ok, Err}
 use Rattle.std.proofs.lemmas.List.Edits.{sets}
 use Rattle.accept.specs.declared.Refusal.TheVariants.{TooMany}
-use Rattle.accept.specs.declared.Test.TheVariants.{Passed}
-use Rattle.accept.specs.Refusals.{given, negative_area}
+use Rattle.accept.specs.Refusals.{Answer, all_passed, given, negative_area}
 use Rattle.geometry.specs.Making.{kept, made_of}
 use Rattle.stream.specs.declared.Awaited.{Awaited}
 use Rattle.stream.specs.Bytes.{steps_in}
@@ -11,8 +10,6 @@ use Rattle.stream.specs.Format.{XY}
 use Rattle.stream.specs.Records.{record_size, record_type, record_data}
 use Rattle.xy.specs.Outlines.{numbers_of, made_count, xy_tested, steps_from}
 use Rattle.gdsii.specs.declared.Size.{Size}
-use Rattle.gdsii.specs.declared.Judged.{Judged}
-use Rattle.gdsii.specs.declared.Judged.TheVariants.{Refused, Found}
 use Rattle.gdsii.specs.Reading.{set_of, record_tested, Reading, read_as, reading}
 use Rattle.gdsii.specs.Answers.{SetLent, set_lent, written}
 
@@ -22,19 +19,19 @@ abbrev pub size_with : Size → List ℤ → Size
 size_with so zs = record { outlines = so.outlines + 1; vertices = so.vertices + made_count zs }
 
 -- with one of n vertices; 4 where it is over a set's size
-unfoldable pub grown_by : Size → ℕ → Judged
+unfoldable pub grown_by : Size → ℕ → Answer Size
 grown_by so n =
     cond (ltb 1024 (so.outlines + 1) || ltb 65536 (so.vertices + n))
-    (Refused TooMany)
-    (Found (record { outlines = so.outlines + 1; vertices = so.vertices + n }))
+    (Err TooMany)
+    (Ok (record { outlines = so.outlines + 1; vertices = so.vertices + n }))
 
 -- after the outline zs is tested
-abbrev pub outline_read : Size → List ℤ → Judged
-outline_read so zs = given (xy_tested zs) (grown_by so (made_count zs)) Refused
+abbrev pub outline_read : Size → List ℤ → Answer Size
+outline_read so zs = given (xy_tested zs) (grown_by so (made_count zs)) Err
 
 -- after the record that s opens with
-unfoldable pub record_read : Awaited → Size → List ℕ → Judged
-record_read then so s = given (record_tested then s) (cond (eqb (record_type s) XY) (outline_read so (steps_in (record_data s))) (Found so)) Refused
+unfoldable pub record_read : Awaited → Size → List ℕ → Answer Size
+record_read then so s = given (record_tested then s) (cond (eqb (record_type s) XY) (outline_read so (steps_in (record_data s))) (Ok so)) Err
 
 -- ---- the signs: 1 where an outline is to be reversed
 abbrev pub sign_of : List ℤ → ℕ
@@ -67,7 +64,7 @@ written_at so zs L = set_lent (sets L.vertices (2 * so.vertices) (made_of (numbe
 -- n vertices from a place on pass the tests, their sign is known, and both lists have room for their outline there
 pub record Joins (s : List ℕ) (from n : ℕ) (so : Size) (S : List ℕ) (L : SetLent) : Type 0 where
   pub within : from + 8 * n ≤ length s
-  pub passed : xy_tested (steps_from s from n) ≡ Passed
+  pub passed : xy_tested (steps_from s from n) ≡ all_passed
   pub sign : get_or S so.outlines 0 ≡ sign_of (steps_from s from n)
   pub few : so.outlines < 1024
   pub small : so.vertices ≤ 65536

@@ -24,8 +24,7 @@ use Rattle.lists.proofs.FoldLaws.{any_same}
 use Rattle.lists.proofs.MemberLaws.{every_run}
 use Rattle.boundary.proofs.FieldLaws.{edge_in_field_lem}
 use Rattle.accept.specs.declared.Refusal.TheVariants.{BadPoint}
-use Rattle.accept.specs.declared.Test.TheVariants.{Passed}
-use Rattle.accept.specs.Refusals.{outline_tested}
+use Rattle.accept.specs.Refusals.{all_passed, outline_tested}
 use Rattle.accept.proofs.TestLaws.{refusing_passed, accepted_field}
 use Rattle.geometry.specs.Polygon.{between_ends, on_edge, locate_of, bounds_of, between_rust, on_edge_rust, locate_rust, fold_by, bounds_rust}
 use Rattle.geometry.specs.Answers.{outline_query_tested}
@@ -37,7 +36,7 @@ point_numbers p h = record {
   y = in_field_number p.y (and_r (is_in_field p.x) (is_in_field p.y) h);
 }
 
-edge_numbers : (v : List Float) → outline_tested v ≡ Passed → (i : ℕ) → i < count v → EdgeOf NotNan (edge_at v i)
+edge_numbers : (v : List Float) → outline_tested v ≡ all_passed → (i : ℕ) → i < count v → EdgeOf NotNan (edge_at v i)
 edge_numbers v passed i l =
     let h : T (edge_in_field (edge_at v i)) = subst T (sym (edge_in_field_lem v (accepted_field v passed).0 i l)) tt in
     let e = edge_at v i in
@@ -57,7 +56,7 @@ fold_corners [] b = refl
 fold_corners (p ∷ ps) b = fold_corners ps (hull_ieee b (point_box p))
 
 -- BOUNDS
-pub bounds_rust_lem : (v : List Float) → outline_tested v ≡ Passed → SameBox (bounds_of (vertices v)) (bounds_rust (vertices v))
+pub bounds_rust_lem : (v : List Float) → outline_tested v ≡ all_passed → SameBox (bounds_of (vertices v)) (bounds_rust (vertices v))
 unfolding bounds_of bounds_rust vertices
 bounds_rust_lem v passed =
     let number : (j : ℕ) → j < 0 + count v → NumberBox (point_box (vertex_at v j)) = λ j l. let e = edge_numbers v passed j (omega arith) in record { min = e.a; max = e.a } in
@@ -79,7 +78,7 @@ on_edge_same p e P E =
     rw (between_same e.a.x e.b.x p.x E.a.x E.b.x P.x, between_same e.a.y e.b.y p.y E.a.y E.b.y P.y)
 
 -- LOCATION
-pub locate_rust_lem : (v : List Float) (p : Point) → outline_query_tested v p ≡ Passed → locate_of (edges v) p ≡ locate_rust (edges v) p
+pub locate_rust_lem : (v : List Float) (p : Point) → outline_query_tested v p ≡ all_passed → locate_of (edges v) p ≡ locate_rust (edges v) p
 unfolding locate_of locate_rust edges outline_query_tested
 locate_rust_lem v p passed =
     let two = refusing_passed (outline_tested v) BadPoint (not (point_in_field p)) passed in

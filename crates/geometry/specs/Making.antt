@@ -1,14 +1,10 @@
 -- Making an outline (`Polygon::new`): one closing vertex equal to the first is dropped, the rest is tested, and a negative outline is reversed. Definitions only.
-use Rattle.std.specs.Prelude.{Bool, ◌&&◌, cond, List, [], ◌∷◌, reverse, ℕ, ◌-◌, ltb, length, take, Float}
+use Rattle.std.specs.Prelude.{Bool, Ok, ◌&&◌, cond, List, [], ◌∷◌, reverse, ℕ, ◌-◌, ltb, length, take, Float}
 use Rattle.boundary.specs.declared.Point.{Point}
 use Rattle.boundary.specs.Outline.{count, vertex_at, same_point, vertices}
-use Rattle.accept.specs.declared.Answer.{Answer}
-use Rattle.accept.specs.declared.Answer.TheVariants.{Count}
-use Rattle.accept.specs.declared.CountFields.{CountFields}
 use Rattle.accept.specs.declared.Refusal.TheVariants.{ShortBuffer}
-use Rattle.accept.specs.declared.Test.{Test}
-use Rattle.accept.specs.Refusals.{◌refusing◌when◌, given, negative_area, shape_tested}
-use Rattle.accept.specs.Answers.{count_fields, Outcome, refused_with, in_fields}
+use Rattle.accept.specs.Refusals.{Answer, Test, ◌refusing◌when◌, given, negative_area, shape_tested}
+use Rattle.accept.specs.Answers.{Fields, count_fields, Outcome, refused_with, in_fields}
 use Rattle.lists.specs.Lists.{at_front}
 
 -- the last vertex repeats the first
@@ -42,12 +38,12 @@ unfoldable pub made_of : List Float → List Float
 made_of v = coordinates_of (turned (negative_area (kept v)) (vertices (kept v)))
 
 -- what making leaves: the number of vertices, and the made outline in the lent list
-unfoldable pub make_outcome : List Float → List Float → Outcome Answer (List Float)
+unfoldable pub make_outcome : List Float → List Float → Outcome (Answer ℕ) (List Float)
 make_outcome v out =
     given (make_tested v (length out))
-    (record { answer = Count (count (kept v)); lent = at_front (made_of v) out })
+    (record { answer = Ok (count (kept v)); lent = at_front (made_of v) out })
     (refused_with out)
 
 -- the same as a call leaves it
-abbrev pub make_call : List Float → List Float → Outcome CountFields (List Float)
+abbrev pub make_call : List Float → List Float → Outcome (Fields ℕ) (List Float)
 make_call v out = in_fields count_fields (make_outcome v out)

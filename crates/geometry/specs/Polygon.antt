@@ -7,6 +7,8 @@ use Rattle.number.specs.Exact.{zeroᶠ}
 use Rattle.boundary.specs.declared.Point.{Point}
 use Rattle.boundary.specs.declared.Edge.{Edge}
 use Rattle.boundary.specs.declared.Bounds.{Bounds}
+use Rattle.geometry.specs.declared.Location.{Location}
+use Rattle.geometry.specs.declared.Location.TheVariants.{Outside, Boundary, Inside}
 use Rattle.boundary.specs.Boxes.{lesser, greater, hull, empty_box, stretched}
 use Rattle.lists.specs.Lists.{run, fold, any, odd_many}
 use Rattle.boundary.specs.Outline.{count, vertex_at}
@@ -34,6 +36,11 @@ unfolding odd_many crosses_of run
 contains_rust v p = odd_many (crosses_of p) (run (edge_into v) 0 (count v))
 
 -- ---- location: 0 outside, 1 boundary, 2 inside, the boundary tested first
+abbrev pub place : Location → ℕ
+place Outside = 0
+place Boundary = 1
+place Inside = 2
+
 -- q lies between a and b, ends included
 abbrev pub between_ends : Float → Float → Float → Bool
 between_ends a b q = le (lesser a b) q && le q (greater a b)

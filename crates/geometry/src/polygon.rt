@@ -3,12 +3,13 @@ ghost use Rattle.std.specs.Prelude.{◌≡◌, cond, ◌-◌, ◌<◌, ◌≤◌
 ghost use Rattle.lists.specs.Lists.{any, at_front};
 ghost use Rattle.std.specs.Float.Ieee.{unlike, lt};
 ghost use Rattle.boundary.specs.Outline.{count, vertex_at, vertices, edges};
-ghost use Rattle.geometry.specs.Polygon.{crosses_of, contains_of, between_ends, cross_of, on_edge, locate_of, bounds_of};
-ghost use Rattle.geometry.specs.Answers.{area_answer, perimeter_answer, bounds_answer, contains_answer, locate_answer, distance_answer};
+ghost use Rattle.geometry.specs.Polygon.{crosses_of, contains_of, between_ends, cross_of, on_edge, locate_of, bounds_of, place};
+ghost use Rattle.geometry.specs.Answers.{area_answer, perimeter_answer, bounds_answer, outline_query_tested, contains_answer, locate_answer, distance_answer};
 ghost use Rattle.geometry.specs.Making.{kept_count, turned, coordinates_of, make_outcome};
 
-use accept::{Answer, Refusal, Test, Verdict, refusals};
-use boundary::{Bounds, Edge, Point, greater_of, hulls, lesser_of};
+use crate::Location;
+use accept::{Refusal, refusals};
+use boundary::{Bounds, Distance, Edge, Point, greater_of, hulls, lesser_of};
 
 // Whether an odd number of edges count for p once the edge from vertex j to vertex i is looked at, where `odd` tells
 // it of those before, and `was` and `up` whether each vertex is above p.
@@ -36,13 +37,11 @@ pub fn holds(v: &[f64], p: Point) -> bool
     }
     let mut j = n - 1;
     let mut was = boundary::vertex_at(v, j).y > p.y;
-    let mut i = 0;
-    while i < n {
+    for i in 0..n {
         let up = boundary::vertex_at(v, i).y > p.y;
         inside = turned_odd(v, j, i, p, was, up, inside);
         was = up;
         j = i;
-        i += 1;
     }
     inside
 }
@@ -72,22 +71,24 @@ fn on_boundary(v: &[f64], p: Point) -> bool
 {
     let n = v.len() / 2;
     let mut found = false;
-    let mut i = 0;
-    while i < n {
+    for i in 0..n {
         found = found | is_on(p, boundary::edge_at(v, i));
-        i += 1;
     }
     found
 }
 
-// 0 outside, 1 boundary, 2 inside, the boundary tested first.
-fn location(v: &[f64], p: Point) -> u32
-    ensures { result ≡ locate_of (edges v.now) p }
+// Where p is, the boundary tested first.
+fn location(v: &[f64], p: Point) -> Location
+    ensures { place result ≡ locate_of (edges v.now) p }
 {
     if on_boundary(v, p) {
-        return 1;
+        return Location::Boundary;
     }
-    if holds(v, p) { 2 } else { 0 }
+    if holds(v, p) {
+        Location::Inside
+    } else {
+        Location::Outside
+    }
 }
 
 // The box of the vertices.
@@ -96,78 +97,64 @@ pub fn box_of(v: &[f64]) -> Bounds
 {
     let n = v.len() / 2;
     let mut b = hulls::empty_box();
-    let mut i = 0;
-    while i < n {
+    for i in 0..n {
         b = hulls::stretch(b, boundary::vertex_at(v, i));
-        i += 1;
     }
     b
 }
 
-pub fn area(v: &[f64]) -> Answer
+pub fn area(v: &[f64]) -> Result<f64, Refusal>
     ensures { result ≡ area_answer v.now }
 {
-    match refusals::outline_verdict(v) {
-        Verdict::Area(a) => Answer::Measure(a),
-        Verdict::TurnedAway(r) => Answer::Refused(r),
-    }
+    refusals::outline_verdict(v)
 }
 
-pub fn perimeter(v: &[f64]) -> Answer
+pub fn perimeter(v: &[f64]) -> Result<f64, Refusal>
     ensures { result ≡ perimeter_answer v.now }
 {
-    match refusals::outline_tested(v) {
-        Test::Passed => Answer::Measure(boundary::length(v)),
-        Test::Failed(r) => Answer::Refused(r),
-    }
+    refusals::outline_tested(v)?;
+    Ok(boundary::length(v))
 }
 
-pub fn bounds(v: &[f64]) -> Answer
+pub fn bounds(v: &[f64]) -> Result<Bounds, Refusal>
     ensures { result ≡ bounds_answer v.now }
 {
-    match refusals::outline_tested(v) {
-        Test::Passed => Answer::Box(box_of(v)),
-        Test::Failed(r) => Answer::Refused(r),
-    }
+    refusals::outline_tested(v)?;
+    Ok(box_of(v))
 }
 
-pub fn contains(v: &[f64], p: Point) -> Answer
+// The tests of a query at p.
+fn query_tested(v: &[f64], p: Point) -> Result<(), Refusal>
+    ensures { result ≡ outline_query_tested v.now p }
+{
+    refusals::outline_tested(v)?;
+    refusals::refuse_when(!refusals::point_in_field(p), Refusal::BadPoint)
+}
+
+// 1 where the outline contains p, and else 0.
+pub fn contains(v: &[f64], p: Point) -> Result<u32, Refusal>
     ensures { result ≡ contains_answer v.now p }
 {
-    let within = refusals::point_in_field(p);
-    let t = refusals::outline_tested(v);
-    match refusals::refusing(t, Refusal::BadPoint, !within) {
-        Test::Passed => Answer::Count(if holds(v, p) { 1 } else { 0 }),
-        Test::Failed(r) => Answer::Refused(r),
-    }
+    query_tested(v, p)?;
+    Ok(u32::from(holds(v, p)))
 }
 
-pub fn locate(v: &[f64], p: Point) -> Answer
+pub fn locate(v: &[f64], p: Point) -> Result<u32, Refusal>
     ensures { result ≡ locate_answer v.now p }
 {
-    let within = refusals::point_in_field(p);
-    let t = refusals::outline_tested(v);
-    match refusals::refusing(t, Refusal::BadPoint, !within) {
-        Test::Passed => Answer::Count(location(v, p)),
-        Test::Failed(r) => Answer::Refused(r),
-    }
+    query_tested(v, p)?;
+    Ok(u32::from(location(v, p)))
 }
 
 // The signed distance of p, negative where the outline contains it, and the normal. Containment stands between the
 // search and the root, since the root waits for the search and containment does not.
-pub fn distance(v: &[f64], p: Point) -> Answer
+pub fn distance(v: &[f64], p: Point) -> Result<Distance, Refusal>
     ensures { result ≡ distance_answer v.now p }
 {
-    let within = refusals::point_in_field(p);
-    let t = refusals::outline_tested(v);
-    match refusals::refusing(t, Refusal::BadPoint, !within) {
-        Test::Passed => {
-            let edge = distance::nearest::nearest_edge(v, p);
-            let inside = holds(v, p);
-            Answer::DistanceWith(distance::nearest::distance(v, edge, p, inside))
-        }
-        Test::Failed(r) => Answer::Refused(r),
-    }
+    query_tested(v, p)?;
+    let edge = distance::nearest::nearest_edge(v, p);
+    let inside = holds(v, p);
+    Ok(distance::nearest::distance(v, edge, p, inside))
 }
 
 // How many numbers are kept once a closing vertex is dropped.
@@ -198,30 +185,24 @@ fn write(v: &[f64], back: bool, out: &mut [f64])
     ensures { out.new ≡ at_front (coordinates_of (turned back (vertices v.now))) out.old }
 {
     let n = v.len() / 2;
-    let mut i = 0;
-    while i < n {
+    for i in 0..n {
         let p = boundary::vertex_at(v, source(back, n, i));
         out[2 * i] = p.x;
         out[2 * i + 1] = p.y;
-        i += 1;
     }
 }
 
 // Makes an outline in out: a closing vertex is dropped, the rest tested, and reversed where its area is
 // negative. The answer is the number of vertices.
-pub fn new(v: &[f64], out: &mut [f64]) -> Answer
+pub fn new(v: &[f64], out: &mut [f64]) -> Result<u32, Refusal>
     ensures { record { answer = result; lent = out.new } ≡ make_outcome v.now out.old }
 {
     let m = kept_count(v);
     let kept = &v[..m];
-    match refusals::shape_tested(kept) {
-        Verdict::Area(a) => {
-            if out.len() < v.len() {
-                return Answer::Refused(Refusal::ShortBuffer);
-            }
-            write(kept, a < 0.0, out);
-            Answer::Count((m / 2) as u32)
-        }
-        Verdict::TurnedAway(r) => Answer::Refused(r),
+    let area = refusals::shape_tested(kept)?;
+    if out.len() < v.len() {
+        return Err(Refusal::ShortBuffer);
     }
+    write(kept, area < 0.0, out);
+    Ok((m / 2) as u32)
 }

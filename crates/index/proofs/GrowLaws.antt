@@ -1,4 +1,5 @@
 -- What building over a whole list leaves, and what a list that passes the tests has. Assumes nothing.
+use Rattle.std.proofs.Common.{Ok, Err}
 use mathlib.Core.Path.{◌≡◌, refl, sym, ap, subst, ◌∙◌}
 use mathlib.Core.Bool.{Bool, true, false, not, ◌||◌, true≢false}
 use mathlib.Core.List.{List, [], ◌∷◌, ◌++◌, flat_map}
@@ -15,21 +16,17 @@ use Rattle.sorts.specs.Sort.{sort, Sorted}
 use Rattle.sorts.proofs.PartLaws.{sort_sorted, run_ascends}
 use Rattle.accept.specs.declared.Refusal.TheVariants.{TooMany, BadBox, ShortBuffer}
 use Rattle.accept.specs.declared.Refusal.{Refusal}
-use Rattle.accept.specs.declared.Test.{Test}
-use Rattle.accept.specs.declared.Test.TheVariants.{Passed, Failed}
 use Rattle.number.specs.Exact.{zeroᶠ}
-use Rattle.accept.specs.Answers.{Outcome}
-use Rattle.accept.specs.Refusals.{◌refusing◌when◌}
+use Rattle.accept.specs.Answers.{in_fields, Outcome, Fields}
+use Rattle.accept.specs.Refusals.{Answer, Test, all_passed, ◌refusing◌when◌}
 use Rattle.accept.proofs.TestLaws.{refusing_passed}
 use Rattle.boxes.specs.BoxLists.{box_count, box_numbers, boxes_of, wide_at, centre_of}
 use Rattle.tree.specs.Tree.{Tree, leaf, hull_of, tree_in, index_of, items_of}
 use Rattle.nodes.specs.Layout.{extra, node_of, nodes_below, nodes_of, corners_of, links_of, Grown}
 use Rattle.boundary.specs.Boxes.{box_fits}
+use Rattle.index.specs.declared.TreeSize.{TreeSize}
 use Rattle.index.specs.Buffer.{IndexBuffer, buffer, short_sizes, short_buffer, holding, grown, cleared}
 use Rattle.index.specs.Answers.{boxes_tested, build_tested, build_outcome, build_fields_of, build_call, Accepted}
-use Rattle.index.specs.declared.BuildFields.{BuildFields}
-use Rattle.index.specs.declared.Built.{Built}
-use Rattle.index.specs.declared.Built.TheVariants.{Refused, Sized}
 use Rattle.lists.proofs.StoreLaws.{sets_front, flat_length}
 use Rattle.lists.proofs.RunLaws.{length_run}
 use Rattle.boxes.proofs.EntryLaws.{wide_held, centres_held}
@@ -142,24 +139,24 @@ record Fit (v : List Float) : Type 0 where
   whole : length v % 4 ≡ 0
   fit : any (λ b. not (box_fits b)) (boxes_of v) ≡ false
 
-fit_of : (v : List Float) → boxes_tested v ≡ Passed → Fit v
+fit_of : (v : List Float) → boxes_tested v ≡ all_passed → Fit v
 unfolding boxes_tested
 fit_of v p =
     let many = ltb 4096 (length v) in
     let part = not (eqb (length v % 4) 0) in
     let unfit = any (λ x. not (box_fits x)) (boxes_of v) in
-    let boxes = refusing_passed (Passed refusing TooMany when many refusing BadBox when part) BadBox unfit p in
-    let whole = refusing_passed (Passed refusing TooMany when many) BadBox part boxes.0 in
-    let few = refusing_passed Passed TooMany many whole.0 in
+    let boxes = refusing_passed (all_passed refusing TooMany when many refusing BadBox when part) BadBox unfit p in
+    let whole = refusing_passed (all_passed refusing TooMany when many) BadBox part boxes.0 in
+    let few = refusing_passed all_passed TooMany many whole.0 in
     record { size = ltb-false 4096 (length v) few.1; whole = eqb-true (length v % 4) 0 (not_none (eqb (length v % 4) 0) whole.1); fit = boxes.1 }
 
-pub boxes_passed : (v : List Float) → boxes_tested v ≡ Passed → (length v ≤ 4096) × (length v % 4 ≡ 0)
+pub boxes_passed : (v : List Float) → boxes_tested v ≡ all_passed → (length v ≤ 4096) × (length v % 4 ≡ 0)
 boxes_passed v p = ((fit_of v p).size, (fit_of v p).whole)
 
-pub boxes_fit : (v : List Float) → boxes_tested v ≡ Passed → any (λ b. not (box_fits b)) (boxes_of v) ≡ false
+pub boxes_fit : (v : List Float) → boxes_tested v ≡ all_passed → any (λ b. not (box_fits b)) (boxes_of v) ≡ false
 boxes_fit v p = (fit_of v p).fit
 
-pub accepted_of : (v : List Float) (c l i : ℕ) → short_sizes c l i ≡ false → boxes_tested v ≡ Passed → Accepted v c l i
+pub accepted_of : (v : List Float) (c l i : ℕ) → short_sizes c l i ≡ false → boxes_tested v ≡ all_passed → Accepted v c l i
 accepted_of v c l i e p =
     let b = fit_of v p in
     let s = or_none (ltb c 2044) (ltb l 1022 || ltb i 1024) e in
@@ -170,7 +167,7 @@ accepted_of v c l i e p =
 pub short_none : (c l i : ℕ) → 2044 ≤ c → 1022 ≤ l → 1024 ≤ i → short_sizes c l i ≡ false
 short_none c l i p q r = rw (le-ltb c 2044 p, le-ltb l 1022 q, le-ltb i 1024 r)
 
-pub accepted_sizes : (v : List Float) (B : IndexBuffer) {t : Test} → t ≡ build_tested v B → t ≡ Passed
+pub accepted_sizes : (v : List Float) (B : IndexBuffer) {t : Test} → t ≡ build_tested v B → t ≡ all_passed
     → Accepted v (length B.corners) (length B.links) (length B.items)
 unfolding build_tested
 accepted_sizes v B tested e =
@@ -178,22 +175,22 @@ accepted_sizes v B tested e =
     accepted_of v (length B.corners) (length B.links) (length B.items) p.1 p.0
 
 -- ---- all that building leaves
-pub built : (v : List Float) (B : IndexBuffer) {t : Test} {k : ℕ} {D : IndexBuffer} → t ≡ build_tested v B → t ≡ Passed
+pub built : (v : List Float) (B : IndexBuffer) {t : Test} {k : ℕ} {D : IndexBuffer} → t ≡ build_tested v B → t ≡ all_passed
     → record { answer = k; lent = D } ≡ grown (index_of v) B
-    → record { answer = Sized k (box_count v); lent = D } ≡ build_outcome v B
+    → record { answer = Ok (record { nodes = k; items = box_count v }); lent = D } ≡ build_outcome v B
 unfolding build_outcome
 built v B tested e g = rw (← tested, e, grown_nodes (index_of v) B g, grown_lent (index_of v) B g, length_index_items v)
 
-pub build_refused : (v : List Float) (B : IndexBuffer) {t : Test} {r : Refusal} → t ≡ build_tested v B → t ≡ Failed r
-    → record { answer = Refused r; lent = B } ≡ build_outcome v B
+pub build_refused : (v : List Float) (B : IndexBuffer) {t : Test} {r : Refusal} → t ≡ build_tested v B → t ≡ Err r
+    → record { answer = Err r; lent = B } ≡ build_outcome v B
 unfolding build_outcome
 build_refused v B tested e = rw (← tested, e)
 
 -- with its answer in the fields
-pub build_call_lem : (v : List Float) (B : IndexBuffer) {b : Built} {f : BuildFields} {D : IndexBuffer}
+pub build_call_lem : (v : List Float) (B : IndexBuffer) {b : Answer TreeSize} {f : Fields TreeSize} {D : IndexBuffer}
     → record { answer = b; lent = D } ≡ build_outcome v B → f ≡ build_fields_of b → record { answer = f; lent = D } ≡ build_call v B
 unfolding build_call
-build_call_lem v B e told = rw told (ap (λ (o : Outcome Built IndexBuffer). record { answer = build_fields_of o.answer; lent = o.lent }) e)
+build_call_lem v B e told = rw told (ap (λ (o : Outcome (Answer TreeSize) IndexBuffer). in_fields build_fields_of o) e)
 
 -- what was built is gone once the buffer is cleared
 pub holding_cleared : (v : List Float) (B : IndexBuffer) → Accepted v (length B.corners) (length B.links) (length B.items)

@@ -1,4 +1,5 @@
 -- What holds of the index of every list of boxes that passes the tests: 511 nodes suffice, and a node's box is around the widened boxes of all items below it. Assumes nothing.
+use Rattle.accept.specs.Refusals.{all_passed}
 use mathlib.Core.Path.{◌≡◌, refl}
 use mathlib.Core.Bool.{Bool, true, false, not, true≢false}
 use mathlib.Core.List.{List, ◌++◌}
@@ -18,7 +19,6 @@ use Rattle.lists.proofs.FoldLaws.{any_at_lem}
 use Rattle.lists.proofs.MemberLaws.{times_append, numbers_below}
 use Rattle.sorts.specs.Sort.{sort}
 use Rattle.sorts.proofs.SortLaws.{times_sort}
-use Rattle.accept.specs.declared.Test.TheVariants.{Passed}
 use Rattle.boxes.specs.BoxLists.{box_count, box_at, boxes_of, wide_at, centre_of}
 use Rattle.tree.specs.Tree.{Tree, leaf, inner, tree_box, hull_of, tree_of, index_of, items_of, EachNode}
 use Rattle.tree.proofs.HullLaws.{hull_of_number, hull_of_around, hull_of_within}
@@ -32,12 +32,12 @@ use Rattle.index.proofs.GrowLaws.{boxes_passed, boxes_fit, index_nodes}
 
 -- NODES: 511 suffice
 module _ (v : List Float) where
-  pub nodes_511 : boxes_tested v ≡ Passed → length (nodes_of (index_of v)) ≤ 511
+  pub nodes_511 : boxes_tested v ≡ all_passed → length (nodes_of (index_of v)) ≤ 511
   nodes_511 p = let b = boxes_passed v p in let s = b.0 in index_nodes v (omega arith)
 
 -- ---- the boxes of the nodes
 -- each box of a list that passes the tests does, and its widened box has no NaN
-module _ (v : List Float) (passed : boxes_tested v ≡ Passed) where
+module _ (v : List Float) (passed : boxes_tested v ≡ all_passed) where
   pub passed_fits : (i : ℕ) → i < box_count v → T (box_fits (box_at v i))
   unfolding boxes_of
   passed_fits i h =
@@ -100,18 +100,18 @@ tree_nested W C is N = (tree_induct W C (λ is t. ((i : ℕ) → In i is → Num
         let B = hull_of_number W is N in
         (refl, (B, rw P.0 (hull_of_within W b B (left C is) (λ i k. hull_of_around W is N i (one i k))), rw Q.0 (hull_of_within W b B (right C is) (λ i k. hull_of_around W is N i (two i k))), P.1, Q.1))
 
-pub nested : (v : List Float) → boxes_tested v ≡ Passed → Nested (index_of v)
+pub nested : (v : List Float) → boxes_tested v ≡ all_passed → Nested (index_of v)
 unfolding index_of
 nested v p = tree_nested (wide_at v) (λ i. centre_of (wide_at v i)) (run (λ n. n) 0 (box_count v)) (listed_number v p)
 
 -- BOXES: a node's box is around the widened boxes of all items below it
-pub node_boxes : (v : List Float) → boxes_tested v ≡ Passed → EachNode (λ b is. (i : ℕ) → In i is → Around b (wide_at v i)) (index_of v)
+pub node_boxes : (v : List Float) → boxes_tested v ≡ all_passed → EachNode (λ b is. (i : ℕ) → In i is → Around b (wide_at v i)) (index_of v)
 unfolding index_of
 node_boxes v p = tree_holds (wide_at v) (λ i. centre_of (wide_at v i)) (run (λ n. n) 0 (box_count v)) (listed_number v p)
 
 -- ---- the index as a tree that stands in a buffer
 -- LEVELS: nine at most
-pub index_levels : (v : List Float) → boxes_tested v ≡ Passed → levels (index_of v) ≤ 9
+pub index_levels : (v : List Float) → boxes_tested v ≡ all_passed → levels (index_of v) ≤ 9
 unfolding index_of
 index_levels v p =
     let s = (boxes_passed v p).0 in
@@ -119,7 +119,7 @@ index_levels v p =
     tree_levels (wide_at v) (λ i. centre_of (wide_at v i)) 8 (run (λ n. n) 0 (box_count v)) (omega arith)
 
 -- LEAVES: where there are boxes, each has an item
-pub index_filled : (v : List Float) → boxes_tested v ≡ Passed → (length v ≡ 0 → ⊥) → Filled (index_of v)
+pub index_filled : (v : List Float) → boxes_tested v ≡ all_passed → (length v ≡ 0 → ⊥) → Filled (index_of v)
 unfolding index_of
 index_filled v p some =
     let w = (boxes_passed v p).1 in
@@ -131,7 +131,7 @@ index_filled v p some =
     pos_of n h = omega arith
 
 -- what building leaves is the index, from node 0 on
-pub index_stands : (v : List Float) (B : IndexBuffer) → boxes_tested v ≡ Passed → (length v ≡ 0 → ⊥) → Stands (holding (index_of v) B) 0 (index_of v)
+pub index_stands : (v : List Float) (B : IndexBuffer) → boxes_tested v ≡ all_passed → (length v ≡ 0 → ⊥) → Stands (holding (index_of v) B) 0 (index_of v)
 unfolding nodes_of
 index_stands v B p some =
     let n = nodes_511 v p in

@@ -1,4 +1,6 @@
 -- THE RUST'S BUILD gives the index, whatever its selections leave, once each leaf's items are put in ascending order, but for the signs of zeros in its boxes; and what an accepted call gives beside it. Assumes nothing.
+use Rattle.std.proofs.Common.{Ok, Err}
+use Rattle.accept.specs.Refusals.{Answer, all_passed}
 use mathlib.Core.Path.{◌≡◌, refl, sym, ap, ◌∙◌, subst}
 use mathlib.Core.Bool.{Bool, true, false}
 use mathlib.Core.List.{List}
@@ -24,7 +26,6 @@ use Rattle.boundary.specs.Line.{half, middle}
 use Rattle.boundary.proofs.AroundLaws.{NumberBox}
 use Rattle.boundary.proofs.FieldLaws.{field_is, fits_in_field, double_field}
 use Rattle.boundary.proofs.BoxLaws.{widening_field}
-use Rattle.accept.specs.declared.Test.TheVariants.{Passed}
 use Rattle.accept.specs.declared.Refusal.TheVariants.{ShortBuffer}
 use Rattle.accept.specs.Answers.{Outcome}
 use Rattle.accept.proofs.TestLaws.{refusing_passed, given_passed}
@@ -34,12 +35,10 @@ use Rattle.lists.proofs.MemberLaws.{times_append, numbers_below}
 use Rattle.sorts.proofs.SortLaws.{length_sort}
 use Rattle.sorts.proofs.SelectLaws.{selected_first, selected_rest, sort_selected}
 use Rattle.boxes.specs.BoxLists.{box_count, box_at, wide_at, centre_of}
-use Rattle.tree.specs.Tree.{Tree, leaf, inner, hull_by, along_y_by, along_y, centre_along, ordered, tree_of, index_of, items_of}
-use Rattle.nodes.specs.Layout.{nodes_of}
-use Rattle.index.specs.declared.Built.{Built}
-use Rattle.index.specs.declared.Built.TheVariants.{Refused, Sized}
+use Rattle.tree.specs.Tree.{Tree, leaf, inner, hull_by, along_y_by, along_y, centre_along, ordered, tree_of, index_of}
 use Rattle.index.specs.Buffer.{IndexBuffer, short_buffer, holding}
-use Rattle.index.specs.Answers.{boxes_tested, build_tested, build_outcome}
+use Rattle.index.specs.Answers.{size_of, boxes_tested, build_tested, build_outcome}
+use Rattle.index.specs.declared.TreeSize.{TreeSize}
 use Rattle.index.specs.Rust.{Builds, few, many, BuiltTree, BuildsIndex, BuiltAsRust, ascended, SameTree, same_leaf, same_inner}
 use Rattle.tree.proofs.TreeLaws.{left, right, tree_leaf, tree_split, tree_sorted}
 use Rattle.tree.proofs.AnyOrder.{hull_same, axis_same}
@@ -121,7 +120,7 @@ centre_held : {b : Bounds} → FieldBox b → PointOf Held (centre_of (widened_o
 unfolding centre_of widened_of
 centre_held B = let w = widening_field B in record { x = middle_held B.min.x B.max.x w; y = middle_held B.min.y B.max.y w }
 
-module _ (v : List Float) (passed : boxes_tested v ≡ Passed) (doubles : Doubles v) where
+module _ (v : List Float) (passed : boxes_tested v ≡ all_passed) (doubles : Doubles v) where
   -- box i is one of the field, and its entry's centre is finite
   entry_held : (i : ℕ) → In i (run (λ n. n) 0 (box_count v)) → PointOf Held (centre_of (wide_at v i))
   unfolding wide_at box_at
@@ -140,15 +139,15 @@ module _ (v : List Float) (passed : boxes_tested v ≡ Passed) (doubles : Double
   builds_index t b = builds_same (wide_at v) (λ i. centre_of (wide_at v i)) (listed_number v passed) entry_held b
 
 -- THE CALL: accepted, over a lent list of `f64`s
-pub built_as_rust : (v : List Float) (B : IndexBuffer) → build_tested v B ≡ Passed → Doubles v → BuiltAsRust v B
+pub built_as_rust : (v : List Float) (B : IndexBuffer) → build_tested v B ≡ all_passed → Doubles v → BuiltAsRust v B
 unfolding build_outcome build_tested
 built_as_rust v B passed doubles =
-    let o : Outcome Built IndexBuffer = record { answer = Sized (length (nodes_of (index_of v))) (length (items_of (index_of v))); lent = holding (index_of v) B } in
-    let left = given_passed passed o (λ r. record { answer = Refused r; lent = B }) in
+    let o : Outcome (Answer TreeSize) IndexBuffer = record { answer = Ok (size_of (index_of v)); lent = holding (index_of v) B } in
+    let left = given_passed passed o (λ r. record { answer = Err r; lent = B }) in
     let some = builds_some (wide_at v) (λ i. centre_of (wide_at v i)) (run (λ i. i) 0 (box_count v)) in
     record {
-      answer = ap (λ (o : Outcome Built IndexBuffer). o.answer) left;
-      lent = ap (λ (o : Outcome Built IndexBuffer). o.lent) left;
+      answer = ap (λ (o : Outcome (Answer TreeSize) IndexBuffer). o.answer) left;
+      lent = ap (λ (o : Outcome (Answer TreeSize) IndexBuffer). o.lent) left;
       same = builds_index v (refusing_passed (boxes_tested v) ShortBuffer (short_buffer B) passed).0 doubles;
       some = (some.tree, some.builds);
     }

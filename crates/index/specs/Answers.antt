@@ -1,25 +1,21 @@
 -- The tests of a box list, in document 01's order, and all that building leaves. Definitions only.
-use Rattle.std.specs.Prelude.{◌≡◌, not, List, ℕ, ◌%◌, ◌≤◌, eqb, ltb, length, Float}
+use Rattle.std.specs.Prelude.{◌≡◌, not, List, ℕ, ◌%◌, ◌≤◌, eqb, ltb, length, Ok, Float}
 use Rattle.boundary.specs.Boxes.{box_fits}
 use Rattle.lists.specs.Lists.{any}
 use Rattle.accept.specs.declared.Refusal.TheVariants.{TooMany, BadBox, ShortBuffer}
-use Rattle.accept.specs.declared.Test.{Test}
-use Rattle.accept.specs.declared.Test.TheVariants.{Passed}
-use Rattle.accept.specs.Answers.{Outcome}
-use Rattle.accept.specs.Refusals.{number, given, ◌refusing◌when◌}
-use Rattle.index.specs.declared.Built.{Built}
-use Rattle.index.specs.declared.Built.TheVariants.{Refused, Sized}
-use Rattle.index.specs.declared.BuildFields.{BuildFields}
+use Rattle.accept.specs.Answers.{Outcome, Fields, fields_of, refused_with, in_fields}
+use Rattle.index.specs.declared.TreeSize.{TreeSize}
+use Rattle.accept.specs.Refusals.{Answer, Test, all_passed, given, ◌refusing◌when◌}
 use Rattle.index.specs.Buffer.{IndexBuffer, short_buffer, holding, corner_places, link_places, item_places}
 use Rattle.boxes.specs.BoxLists.{boxes_of}
-use Rattle.tree.specs.Tree.{index_of, items_of}
+use Rattle.tree.specs.Tree.{Tree, index_of, items_of}
 use Rattle.nodes.specs.Layout.{nodes_of}
 
 -- ---- tests 4 and 11
 unfoldable pub boxes_tested : List Float → Test
 unfolding box_fits boxes_of any ◌refusing◌when◌
 boxes_tested v =
-    Passed
+    all_passed
     refusing TooMany when ltb 4096 (length v)
     refusing BadBox when not (eqb (length v % 4) 0)
     refusing BadBox when any (λ b. not (box_fits b)) (boxes_of v)
@@ -39,19 +35,25 @@ build_tested v B =
     boxes_tested v
     refusing ShortBuffer when short_buffer B
 
--- what it answers, how many nodes and items there are, and what it leaves in the buffer
-unfoldable pub build_outcome : List Float → IndexBuffer → Outcome Built IndexBuffer
+-- how many nodes and items a tree has
+abbrev pub size_of : Tree → TreeSize
+size_of t = record { nodes = length (nodes_of t); items = length (items_of t) }
+
+-- what it answers, the size of the tree, and what it leaves in the buffer
+unfoldable pub build_outcome : List Float → IndexBuffer → Outcome (Answer TreeSize) IndexBuffer
 unfolding build_tested given
 build_outcome v B = given (build_tested v B)
-    (record { answer = Sized (length (nodes_of (index_of v))) (length (items_of (index_of v))); lent = holding (index_of v) B })
-    (λ r. record { answer = Refused r; lent = B })
+    (record { answer = Ok (size_of (index_of v)); lent = holding (index_of v) B })
+    (refused_with B)
 
 -- what the call returns and puts into its answer fields: a refusal gives its number, and zeros
-abbrev pub build_fields_of : Built → BuildFields
-build_fields_of (Refused r) = record { number = number r; nodes = 0; items = 0 }
-build_fields_of (Sized n k) = record { number = 0; nodes = n; items = k }
+abbrev pub no_tree : TreeSize
+no_tree = record { nodes = 0; items = 0 }
+
+abbrev pub build_fields_of : Answer TreeSize → Fields TreeSize
+build_fields_of a = fields_of no_tree a
 
 -- the same outcome, with the answer in its fields
-unfoldable pub build_call : List Float → IndexBuffer → Outcome BuildFields IndexBuffer
+unfoldable pub build_call : List Float → IndexBuffer → Outcome (Fields TreeSize) IndexBuffer
 unfolding build_outcome
-build_call v B = record { answer = build_fields_of (build_outcome v B).answer; lent = (build_outcome v B).lent }
+build_call v B = in_fields build_fields_of (build_outcome v B)

@@ -1,5 +1,5 @@
 -- The trees that the Rust's `build` gives, in the Rust's own words (document 01, index.rs). Definitions only.
-use Rattle.std.specs.Prelude.{◌≡◌, List, ℕ, ◌/◌, ◌≤◌, ◌<◌, leb, length, take, drop, Float}
+use Rattle.std.specs.Prelude.{◌≡◌, List, ℕ, ◌/◌, ◌≤◌, ◌<◌, leb, length, take, drop, Ok, Float}
 use Rattle.boundary.specs.declared.Point.{Point}
 use Rattle.boundary.specs.declared.Bounds.{Bounds}
 use Rattle.boundary.specs.Boxes.{SameBox, hull_ieee}
@@ -7,11 +7,9 @@ use Rattle.lists.specs.Lists.{run}
 use Rattle.sorts.specs.Keys.{precedes}
 use Rattle.sorts.specs.Sort.{sort, Selected}
 use Rattle.boxes.specs.BoxLists.{box_count, wide_at, centre_of}
-use Rattle.tree.specs.Tree.{Tree, leaf, inner, hull_by, along_y_by, centre_along, index_of, items_of}
-use Rattle.nodes.specs.Layout.{nodes_of}
-use Rattle.index.specs.declared.Built.TheVariants.{Sized}
+use Rattle.tree.specs.Tree.{Tree, leaf, inner, hull_by, along_y_by, centre_along, index_of}
 use Rattle.index.specs.Buffer.{IndexBuffer, holding}
-use Rattle.index.specs.Answers.{build_outcome}
+use Rattle.index.specs.Answers.{size_of, build_outcome}
 
 -- ---- `build`
 -- where entries are parted: half the count, rounded down
@@ -51,7 +49,7 @@ pub data SameTree : Tree → Tree → Type 0 where
 -- it answers how many nodes and items the index has, and leaves the index in the buffer. Each tree that the Rust may give
 -- is the index, once each leaf's items ascend, but for the signs of zeros in boxes; and there is such a tree
 pub record BuiltAsRust (v : List Float) (B : IndexBuffer) : Type 0 where
-  pub answer : (build_outcome v B).answer ≡ Sized (length (nodes_of (index_of v))) (length (items_of (index_of v)))
+  pub answer : (build_outcome v B).answer ≡ Ok (size_of (index_of v))
   pub lent : (build_outcome v B).lent ≡ holding (index_of v) B
   pub same : (t : Tree) → BuildsIndex v t → SameTree (ascended t) (index_of v)
   pub some : (t : Tree) × BuildsIndex v t

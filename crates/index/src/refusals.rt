@@ -8,8 +8,8 @@ ghost use Rattle.accept.specs.Refusals.{◌refusing◌when◌};
 ghost use Rattle.index.specs.Answers.{boxes_tested};
 ghost use Rattle.index.specs.Buffer.{short_sizes};
 
-use accept::refusals::{box_fits, refusing};
-use accept::{Refusal, Test};
+use accept::Refusal;
+use accept::refusals::{box_fits, refuse_when};
 
 // Whether a box of the list is not one of the field, or has a minimum above its maximum.
 fn any_unfit(boxes: &[f64]) -> bool
@@ -24,19 +24,12 @@ fn any_unfit(boxes: &[f64]) -> bool
 }
 
 // Tests 4 and 11 of a box list.
-pub fn boxes_tested(boxes: &[f64]) -> Test
+pub fn boxes_tested(boxes: &[f64]) -> Result<(), Refusal>
     ensures { result ≡ boxes_tested boxes.now }
 {
-    if 4096 < boxes.len() {
-        return Test::Failed(Refusal::TooMany);
-    }
-    if boxes.len() % 4 == 0 {
-        if any_unfit(boxes) {
-            return Test::Failed(Refusal::BadBox);
-        }
-        return Test::Passed;
-    }
-    Test::Failed(Refusal::BadBox)
+    refuse_when(4096 < boxes.len(), Refusal::TooMany)?;
+    refuse_when(boxes.len() % 4 != 0, Refusal::BadBox)?;
+    refuse_when(any_unfit(boxes), Refusal::BadBox)
 }
 
 // Whether an index buffer is too short.
@@ -47,12 +40,14 @@ pub fn short_index(corners: usize, links: usize, items: usize) -> bool
 }
 
 // The tests of building, in lists of so many corner numbers, link numbers and items.
-pub fn build_tested(boxes: &[f64], corners: usize, links: usize, items: usize) -> Test
+pub fn build_tested(
+    boxes: &[f64],
+    corners: usize,
+    links: usize,
+    items: usize,
+) -> Result<(), Refusal>
     ensures { result ≡ (boxes_tested boxes.now refusing ShortBuffer when short_sizes corners links items) }
 {
-    refusing(
-        boxes_tested(boxes),
-        Refusal::ShortBuffer,
-        short_index(corners, links, items),
-    )
+    boxes_tested(boxes)?;
+    refuse_when(short_index(corners, links, items), Refusal::ShortBuffer)
 }

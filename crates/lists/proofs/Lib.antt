@@ -12,3 +12,5 @@ pub mod StoreLaws
 pub mod FrontLaws
 -- A list with members left out.
 pub mod SublistLaws
+-- A truth value as a number.
+pub mod BitLaws

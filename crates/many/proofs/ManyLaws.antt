@@ -1,4 +1,5 @@
 -- What a call for many points that passes the tests has, and what it leaves in its lists, one point after the other. Assumes nothing.
+use Rattle.accept.specs.Refusals.{all_passed}
 use mathlib.Core.Path.{◌≡◌, ap, ◌∙◌}
 use mathlib.Core.Bool.{true, false, not}
 use mathlib.Core.List.{List}
@@ -15,7 +16,6 @@ use Rattle.lists.specs.Lists.{run, at_front}
 use Rattle.lists.proofs.FoldLaws.{or_none, any_at_lem}
 use Rattle.lists.proofs.RunLaws.{length_run, run_at, map_run}
 use Rattle.lists.proofs.StoreLaws.{sets_front}
-use Rattle.accept.specs.declared.Test.TheVariants.{Passed}
 use Rattle.accept.proofs.TestLaws.{refusing_passed}
 use Rattle.index.specs.Buffer.{short_buffer}
 use Rattle.set.specs.Set.{Outline, outlines_of}
@@ -29,14 +29,14 @@ use Rattle.many.specs.Work.{ManyReady}
 
 -- ---- what passing the tests tells
 pub record ManyPassed (v : List Float) (cs : List ℕ) (ps : List Float) (L : ManyLent) : Type 0 where
-  pub set : set_tested v cs ≡ Passed
+  pub set : set_tested v cs ≡ all_passed
   pub counted : bad_point_count ps ≡ false
   pub points : any_bad_point ps ≡ false
   pub buffer : short_buffer L.buffer ≡ false
   pub lists : short_lists L.lists ≡ false
 
 module _ (v : List Float) (cs : List ℕ) (ps : List Float) (L : ManyLent) where
-  pub many_passed : many_tested v cs ps L ≡ Passed → ManyPassed v cs ps L
+  pub many_passed : many_tested v cs ps L ≡ all_passed → ManyPassed v cs ps L
   unfolding many_tested
   many_passed e =
       let l = refusing_passed _ _ _ e in
@@ -45,7 +45,7 @@ module _ (v : List Float) (cs : List ℕ) (ps : List Float) (L : ManyLent) where
       let c = refusing_passed _ _ _ p.0 in
       record { set = c.0; counted = c.1; points = p.1; buffer = b.1; lists = l.1 }
 
-  pub many_ready : many_tested v cs ps L ≡ Passed → ManyReady v cs ps L
+  pub many_ready : many_tested v cs ps L ≡ all_passed → ManyReady v cs ps L
   many_ready e =
       let h = many_passed e in
       let c = or_none (eqb (length ps % 2) 1) (ltb point_places (count ps)) h.counted in

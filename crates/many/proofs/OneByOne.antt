@@ -1,4 +1,5 @@
 -- WHAT A CALL FOR MANY POINTS ANSWERS: what single calls do, made one by one, in the points' order; and where it is refused. Assumes nothing.
+use Rattle.std.proofs.Common.{Err, Ok}
 use mathlib.Core.Path.{◌≡◌, refl, sym, ap, ap₂, ◌∙◌}
 use mathlib.Core.Bool.{false}
 use mathlib.Core.List.{List, map}
@@ -14,19 +15,14 @@ use Rattle.boundary.specs.Outline.{count, vertex_at}
 use Rattle.lists.specs.Lists.{run, at_front}
 use Rattle.lists.proofs.FrontLaws.{front_at, front_past}
 use Rattle.lists.proofs.RunLaws.{length_run, run_at, map_run}
-use Rattle.accept.specs.declared.CountFields.{CountFields}
 use Rattle.accept.specs.declared.Refusal.{Refusal}
-use Rattle.accept.specs.declared.Test.{Test}
-use Rattle.accept.specs.declared.Test.TheVariants.{Passed, Failed}
-use Rattle.accept.specs.Answers.{Outcome, count_fields, in_fields, refused_with}
-use Rattle.accept.specs.Refusals.{◌refusing◌when◌, number}
+use Rattle.accept.specs.Answers.{Outcome, count_fields, in_fields, refused_with, Fields}
+use Rattle.accept.specs.Refusals.{Answer, Test, all_passed, ◌refusing◌when◌, number}
 use Rattle.accept.proofs.TestLaws.{number_above, given_passed, given_failed}
 use Rattle.index.specs.Buffer.{IndexBuffer, short_buffer, cleared}
 use Rattle.set.specs.Set.{Outline, outlines_of}
 use Rattle.set.proofs.SetLaws.{outlines_length}
 use Rattle.set.proofs.AskLaws.{query_passes, query_worked}
-use Rattle.nearest.specs.declared.Nearest.{Nearest}
-use Rattle.nearest.specs.declared.Nearest.TheVariants.{Refused}
 use Rattle.nearest.specs.declared.NearestFields.{NearestFields}
 use Rattle.nearest.specs.Nearest.{nearest_in, nearest_fields, NearestIs}
 use Rattle.nearest.specs.Answers.{nearest_outcome, nearest_call}
@@ -48,7 +44,7 @@ module _ (v : List Float) (cs : List ℕ) (ps : List Float) (L : ManyLent) where
 
   -- ---- where it is refused
   -- ACCEPTED exactly where the set's tests are passed, 15 is not given, every point is one of the field, and no list is too short
-  pub accepted_where : ManyPassed v cs ps L → many_tested v cs ps L ≡ Passed
+  pub accepted_where : ManyPassed v cs ps L → many_tested v cs ps L ≡ all_passed
   unfolding many_tested ◌refusing◌when◌
   accepted_where h = rw (h.set, h.counted, h.points, h.buffer, h.lists)
 
@@ -57,21 +53,21 @@ module _ (v : List Float) (cs : List ℕ) (ps : List Float) (L : ManyLent) where
   accepted_only_where e = go (many_tested v cs ps L) refl
     where
       go : (t : Test) → many_tested v cs ps L ≡ t → ManyPassed v cs ps L
-      go Passed p = many_passed v cs ps L p
-      go (Failed r) p =
+      go (Ok _) p = many_passed v cs ps L p
+      go (Err r) p =
           let left = ap (in_fields count_fields) (given_failed p (many_worked v cs ps L) (refused_with L)) in
-          let z = sym (ap (λ (o : Outcome CountFields ManyLent). o.answer.number) left) ∙ e in
+          let z = sym (ap (λ (o : Outcome (Fields ℕ) ManyLent). o.answer.number) left) ∙ e in
           let n = number_above r in
           absurd (omega arith)
 
   -- REFUSED: the refusal's number, and all that was lent as it was
-  pub refused_leaves : {r : Refusal} → many_tested v cs ps L ≡ Failed r
+  pub refused_leaves : {r : Refusal} → many_tested v cs ps L ≡ Err r
       → many_call v cs ps L ≡ record { answer = record { number = number r; count = 0 }; lent = L }
   unfolding many_call many_outcome
   refused_leaves p = ap (in_fields count_fields) (given_failed p (many_worked v cs ps L) (refused_with L))
 
   -- ---- a call that passes the tests
-  module _ (passed : many_tested v cs ps L ≡ Passed) where
+  module _ (passed : many_tested v cs ps L ≡ all_passed) where
     call_is : many_call v cs ps L ≡ in_fields count_fields (many_worked v cs ps L)
     unfolding many_call many_outcome
     call_is = ap (in_fields count_fields) (given_passed passed (many_worked v cs ps L) (refused_with L))
@@ -79,7 +75,7 @@ module _ (v : List Float) (cs : List ℕ) (ps : List Float) (L : ManyLent) where
     -- CLEARED: the working buffer, over every set
     pub buffer_cleared : (many_call v cs ps L).lent.buffer ≡ cleared L.buffer
     unfolding many_worked
-    buffer_cleared = ap (λ (o : Outcome CountFields ManyLent). o.lent.buffer) call_is
+    buffer_cleared = ap (λ (o : Outcome (Fields ℕ) ManyLent). o.lent.buffer) call_is
 
     -- NONE over an empty set: neither list is written
     pub none_over_empty : length cs ≡ 0
@@ -159,7 +155,7 @@ module _ (v : List Float) (cs : List ℕ) (ps : List Float) (L : ManyLent) where
         one_by_one B long =
             let h = many_passed v cs ps L passed in
             let q = query_passes v cs point B h.set (point_fits ps h.points i l) long in
-            let w = query_worked v cs point B (nearest_in os point) Refused q in
+            let w = query_worked v cs point B (nearest_in os point) Err q in
             answer_left ∙ sym (ap (λ (o : Outcome Nearest IndexBuffer). nearest_fields o.answer) w)
 
         -- NEAREST: an outline with the least magnitude, and of those the one with the lowest number

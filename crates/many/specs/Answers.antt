@@ -1,15 +1,11 @@
 -- *Many points per call* (document 02, U1): the tests, and all that the call leaves. Definitions only.
-use Rattle.std.specs.Prelude.{Bool, not, cond, ◌||◌, List, [], map, ℕ, ◌%◌, eqb, ltb, length, Float}
+use Rattle.std.specs.Prelude.{Bool, not, cond, ◌||◌, List, [], map, ℕ, ◌%◌, eqb, ltb, length, Ok, Float}
 use Rattle.boundary.specs.Boxes.{point_in_field}
 use Rattle.boundary.specs.Outline.{count, vertices}
 use Rattle.lists.specs.Lists.{any, at_front}
-use Rattle.accept.specs.declared.Answer.{Answer}
-use Rattle.accept.specs.declared.Answer.TheVariants.{Count}
-use Rattle.accept.specs.declared.CountFields.{CountFields}
 use Rattle.accept.specs.declared.Refusal.TheVariants.{BadPoint, ShortBuffer, BadPointCount}
-use Rattle.accept.specs.declared.Test.{Test}
-use Rattle.accept.specs.Answers.{Outcome, count_fields, refused_with, in_fields}
-use Rattle.accept.specs.Refusals.{◌refusing◌when◌, given}
+use Rattle.accept.specs.Answers.{Outcome, count_fields, refused_with, in_fields, Fields}
+use Rattle.accept.specs.Refusals.{Answer, Test, ◌refusing◌when◌, given}
 use Rattle.index.specs.Buffer.{IndexBuffer, buffer, short_buffer, cleared}
 use Rattle.set.specs.Set.{Outline, outlines_of}
 use Rattle.set.specs.Tests.{set_tested}
@@ -85,13 +81,13 @@ abbrev pub leaving : List NearestFields → ManyLent → ManyLent
 leaving answers L = record { buffer = cleared L.buffer; lists = with_answers answers L.lists }
 
 -- where the tests are passed
-unfoldable pub many_worked : List Float → List ℕ → List Float → ManyLent → Outcome Answer ManyLent
-many_worked v cs ps L = let os = outlines_of v cs in record { answer = Count (found_over os); lent = leaving (written_of os ps) L }
+unfoldable pub many_worked : List Float → List ℕ → List Float → ManyLent → Outcome (Answer ℕ) ManyLent
+many_worked v cs ps L = let os = outlines_of v cs in record { answer = Ok (found_over os); lent = leaving (written_of os ps) L }
 
 -- where they are not, the refusal, and all as it was
-unfoldable pub many_outcome : List Float → List ℕ → List Float → ManyLent → Outcome Answer ManyLent
+unfoldable pub many_outcome : List Float → List ℕ → List Float → ManyLent → Outcome (Answer ℕ) ManyLent
 many_outcome v cs ps L = given (many_tested v cs ps L) (many_worked v cs ps L) (refused_with L)
 
 -- the same, with the answer in its fields
-unfoldable pub many_call : List Float → List ℕ → List Float → ManyLent → Outcome CountFields ManyLent
+unfoldable pub many_call : List Float → List ℕ → List Float → ManyLent → Outcome (Fields ℕ) ManyLent
 many_call v cs ps L = in_fields count_fields (many_outcome v cs ps L)

@@ -1,4 +1,6 @@
 -- WHAT A CALL THAT PASSES THE TESTS LISTS: what `meeting` and the Rust's walk do, no number twice, and every box that shares a point with the cell; and what two calls list, one for a cell inside the other's. Assumes nothing.
+use Rattle.std.proofs.Common.{Ok}
+use Rattle.accept.specs.Refusals.{Answer, all_passed}
 use mathlib.Core.Path.{◌≡◌, refl, sym, ap, ◌∙◌}
 use mathlib.Core.Bool.{Bool, true, false}
 use mathlib.Core.List.{List}
@@ -15,9 +17,6 @@ use Rattle.boundary.specs.Boxes.{DoubleBox, FieldBox, Around}
 use Rattle.boundary.proofs.FieldLaws.{double_box_field}
 use Rattle.lists.specs.Lists.{times, In, Sublist, at_front}
 use Rattle.lists.proofs.SublistLaws.{sublist_in, sublist_times, sublist_length}
-use Rattle.accept.specs.declared.Answer.{Answer}
-use Rattle.accept.specs.declared.Answer.TheVariants.{Count}
-use Rattle.accept.specs.declared.Test.TheVariants.{Passed}
 use Rattle.accept.specs.Answers.{Outcome}
 use Rattle.accept.proofs.TestLaws.{given_passed}
 use Rattle.boxes.specs.BoxLists.{box_count, box_at}
@@ -41,23 +40,23 @@ boxes_double v held k l = record {
   max = record { x = held.each (4 * k + 2) (omega arith); y = held.each (4 * k + 3) (omega arith) };
 }
 
-module _ (v : List Float) (c : Bounds) (B : IndexBuffer) (S : List ℕ) (passed : meeting_tested v c B S ≡ Passed) where
-  boxes_pass : boxes_tested v ≡ Passed
+module _ (v : List Float) (c : Bounds) (B : IndexBuffer) (S : List ℕ) (passed : meeting_tested v c B S ≡ all_passed) where
+  boxes_pass : boxes_tested v ≡ all_passed
   boxes_pass = (meeting_accepted v c B S refl passed).1
 
-  outcome_is : meeting_outcome v c B S ≡ record { answer = Count (listing v c B S).answer; lent = (listing v c B S).lent }
+  outcome_is : meeting_outcome v c B S ≡ record { answer = Ok (listing v c B S).answer; lent = (listing v c B S).lent }
   unfolding meeting_outcome
   outcome_is = given_passed passed _ _
 
   -- COUNTED: how many items there are
-  pub counts_meeting : (meeting_outcome v c B S).answer ≡ Count (length (meeting_of c (index_of v)))
+  pub counts_meeting : (meeting_outcome v c B S).answer ≡ Ok (length (meeting_of c (index_of v)))
   unfolding listing
-  counts_meeting = ap (λ (o : Outcome Answer MeetingLent). o.answer) outcome_is
+  counts_meeting = ap (λ (o : Outcome (Answer ℕ) MeetingLent). o.answer) outcome_is
 
   -- AT EXIT the list begins with them, and its places past them are as they were
   pub fronts_meeting : (meeting_outcome v c B S).lent.list ≡ at_front (meeting_of c (index_of v)) S
   unfolding listing
-  fronts_meeting = ap (λ (o : Outcome Answer MeetingLent). o.lent.list) outcome_is
+  fronts_meeting = ap (λ (o : Outcome (Answer ℕ) MeetingLent). o.lent.list) outcome_is
 
   -- LISTED: they are the numbers that the call lists
   pub lists_meeting : listed_by v c B S ≡ meeting_of c (index_of v)
@@ -65,7 +64,7 @@ module _ (v : List Float) (c : Bounds) (B : IndexBuffer) (S : List ℕ) (passed 
   lists_meeting = let M = meeting_of c (index_of v) in rw (counts_meeting, fronts_meeting) (take_at M (drop (length M) S) (length M) refl)
 
   -- as many as it counts
-  counts_listed : (meeting_call v c B S).answer.count ≡ length (listed_by v c B S)
+  counts_listed : (meeting_call v c B S).answer.value ≡ length (listed_by v c B S)
   counts_listed = rw (lists_meeting, counts_meeting)
 
   -- THE RUST'S WALK, which leaves a node whose box shares no point with all below it, lists the same
@@ -96,13 +95,13 @@ module _ (v : List Float) (c : Bounds) (B : IndexBuffer) (S : List ℕ) (passed 
 
 -- ---- zooming out (document 02, U2): two calls over the same boxes, one for the cell c, one for a cell d that c lies inside, each with buffers of its own
 module _ (v : List Float) (c d : Bounds) (B E : IndexBuffer) (S U : List ℕ)
-    (passed : meeting_tested v c B S ≡ Passed) (passes : meeting_tested v d E U ≡ Passed) (inside : Around d c) where
+    (passed : meeting_tested v c B S ≡ all_passed) (passes : meeting_tested v d E U ≡ all_passed) (inside : Around d c) where
   -- IN ORDER: what the inner cell lists is what the outer lists with some items left out
   pub zooming_out_order : Sublist (listed_by v c B S) (listed_by v d E U)
   zooming_out_order = rw (lists_meeting v c B S passed, lists_meeting v d E U passes) (meeting_sublist c d inside (index_of v))
 
   -- COUNTED: no fewer
-  pub zooming_out_counts : (meeting_call v c B S).answer.count ≤ (meeting_call v d E U).answer.count
+  pub zooming_out_counts : (meeting_call v c B S).answer.value ≤ (meeting_call v d E U).answer.value
   zooming_out_counts = rw (counts_listed v c B S passed, counts_listed v d E U passes) (sublist_length zooming_out_order)
 
   -- KEPT: every item that the inner cell lists is listed for the outer

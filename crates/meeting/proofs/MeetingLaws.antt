@@ -1,4 +1,5 @@
 -- The walk of the buffer lists what `meeting` says: leaf boxes alone decide, and no item is listed twice as far as there is room. Assumes nothing.
+use Rattle.std.proofs.Common.{Ok, Err}
 use mathlib.Core.Path.{◌≡◌, refl, sym, ap, ◌∙◌}
 use mathlib.Core.Bool.{Bool, true, false, not, cond}
 use mathlib.Core.List.{List, [], ◌∷◌, ◌++◌}
@@ -13,12 +14,9 @@ use Rattle.boundary.specs.Boxes.{box_fits}
 use Rattle.accept.specs.Answers.{Outcome}
 use Rattle.lists.specs.Lists.{Sublist, at_front}
 use Rattle.lists.proofs.SublistLaws.{sublist_self, sublist_none, sublist_append, sublist_length}
-use Rattle.accept.specs.Refusals.{◌refusing◌when◌}
-use Rattle.accept.specs.declared.Answer.TheVariants.{Refused, Count}
+use Rattle.accept.specs.Refusals.{Test, all_passed, ◌refusing◌when◌}
 use Rattle.accept.specs.declared.Refusal.{Refusal}
 use Rattle.accept.specs.declared.Refusal.TheVariants.{BadBox, ShortBuffer}
-use Rattle.accept.specs.declared.Test.{Test}
-use Rattle.accept.specs.declared.Test.TheVariants.{Passed, Failed}
 use Rattle.accept.proofs.TestLaws.{refusing_passed}
 use Rattle.tree.specs.Tree.{Tree, leaf, inner, tree_box, index_of, items_of}
 use Rattle.nodes.specs.Layout.{first_at, count_at}
@@ -91,7 +89,7 @@ no_items : (xs : List ℕ) → length xs ≤ 0 → xs ≡ []
 no_items [] h = refl
 no_items (x ∷ xs) h = absurd (omega arith)
 
-module _ (v : List Float) (c : Bounds) (passed : boxes_tested v ≡ Passed) where
+module _ (v : List Float) (c : Bounds) (passed : boxes_tested v ≡ all_passed) where
   -- the walk of a buffer in which the index stands finds what `meeting` says
   pub found_standing : (B : IndexBuffer) → ((length v ≡ 0 → ⊥) → Stands B 0 (index_of v)) → (d : ℕ) → levels (index_of v) ≤ d
       → found d (length v) B c ≡ meeting_of c (index_of v)
@@ -106,7 +104,7 @@ module _ (v : List Float) (c : Bounds) (passed : boxes_tested v ≡ Passed) wher
           sym (no_items (meeting_of c (index_of v)) (omega arith))
       go false e = hits_is c B (index_of v) d 0 (stands (eqb-false (length v) 0 e)) h ∙ visited_is c (index_of v) (nested v passed)
 
-module _ (v : List Float) (c : Bounds) (passed : boxes_tested v ≡ Passed) (B : IndexBuffer) where
+module _ (v : List Float) (c : Bounds) (passed : boxes_tested v ≡ all_passed) (B : IndexBuffer) where
   -- so does the walk of what building leaves
   pub found_is : (d : ℕ) → levels (index_of v) ≤ d → found d (length v) (holding (index_of v) B) c ≡ meeting_of c (index_of v)
   found_is = found_standing v c passed (holding (index_of v) B) (index_stands v B passed)
@@ -132,8 +130,8 @@ module _ (v : List Float) (c : Bounds) (passed : boxes_tested v ≡ Passed) (B :
 
 module _ (v : List Float) (c : Bounds) (B : IndexBuffer) (S : List ℕ) where
   -- what a call that passes the tests has
-  pub meeting_accepted : {t : Test} → t ≡ meeting_tested v c B S → t ≡ Passed
-      → Accepted v (length B.corners) (length B.links) (length B.items) × (boxes_tested v ≡ Passed) × (1024 ≤ length S)
+  pub meeting_accepted : {t : Test} → t ≡ meeting_tested v c B S → t ≡ all_passed
+      → Accepted v (length B.corners) (length B.links) (length B.items) × (boxes_tested v ≡ all_passed) × (1024 ≤ length S)
   unfolding meeting_tested
   meeting_accepted tested e =
       let cell = boxes_tested v refusing BadBox when not (box_fits c) in
@@ -147,12 +145,12 @@ module _ (v : List Float) (c : Bounds) (B : IndexBuffer) (S : List ℕ) where
   listing_count e = ap (λ (o : Outcome ℕ MeetingLent). o.answer) e
 
   -- what every call leaves
-  pub met : {t : Test} {r : ℕ} {M : MeetingLent} → t ≡ meeting_tested v c B S → t ≡ Passed → record { answer = r; lent = M } ≡ listing v c B S
-      → record { answer = Count r; lent = M } ≡ meeting_outcome v c B S
+  pub met : {t : Test} {r : ℕ} {M : MeetingLent} → t ≡ meeting_tested v c B S → t ≡ all_passed → record { answer = r; lent = M } ≡ listing v c B S
+      → record { answer = Ok r; lent = M } ≡ meeting_outcome v c B S
   unfolding meeting_outcome
-  met tested e l = rw (← tested, e) (ap (λ (o : Outcome ℕ MeetingLent). record { answer = Count o.answer; lent = o.lent }) l)
+  met tested e l = rw (← tested, e) (ap (λ (o : Outcome ℕ MeetingLent). record { answer = Ok o.answer; lent = o.lent }) l)
 
-  pub meeting_refused : {t : Test} {r : Refusal} → t ≡ meeting_tested v c B S → t ≡ Failed r
-      → record { answer = Refused r; lent = record { buffer = B; list = S } } ≡ meeting_outcome v c B S
+  pub meeting_refused : {t : Test} {r : Refusal} → t ≡ meeting_tested v c B S → t ≡ Err r
+      → record { answer = Err r; lent = record { buffer = B; list = S } } ≡ meeting_outcome v c B S
   unfolding meeting_outcome
   meeting_refused tested e = rw (← tested, e)

@@ -1,4 +1,5 @@
 -- Every box that shares a point with the cell is listed. Assumes nothing.
+use Rattle.accept.specs.Refusals.{all_passed}
 use mathlib.Core.Path.{◌≡◌, refl, sym, ◌∙◌}
 use mathlib.Core.Bool.{Bool, true, false, cond, true≢false}
 use mathlib.Core.List.{List, []}
@@ -11,7 +12,6 @@ use Rattle.boundary.specs.Boxes.{Around, FieldBox}
 use Rattle.boundary.proofs.BoxLaws.{widened_around}
 use Rattle.lists.proofs.MemberLaws.{times_append}
 use Rattle.lists.specs.Lists.{times, In}
-use Rattle.accept.specs.declared.Test.TheVariants.{Passed}
 use Rattle.boxes.specs.BoxLists.{box_count, box_at, wide_at}
 use Rattle.tree.specs.Tree.{Tree, leaf, inner, index_of, items_of, EachNode}
 use Rattle.tree.proofs.TreeLaws.{items_once}
@@ -48,7 +48,7 @@ unfolding wide_at
 wide_around v i f = widened_around f
 
 -- LISTED: every box that shares a point with the cell
-pub meeting_lists : (v : List Float) (c : Bounds) (i : ℕ) → boxes_tested v ≡ Passed → i < box_count v → FieldBox (box_at v i)
+pub meeting_lists : (v : List Float) (c : Bounds) (i : ℕ) → boxes_tested v ≡ all_passed → i < box_count v → FieldBox (box_at v i)
     → apart (box_at v i) c ≡ false → In i (meeting_of c (index_of v))
 meeting_lists v c i p h f e =
     let once = (items_once v i).0 h in

@@ -1,15 +1,11 @@
 -- The tests of `meeting`, in document 01's order, and all that the call leaves. Definitions only.
-use Rattle.std.specs.Prelude.{not, List, ℕ, ltb, length, take, Float}
+use Rattle.std.specs.Prelude.{not, List, ℕ, ltb, length, take, Ok, Err, Float}
 use Rattle.boundary.specs.declared.Bounds.{Bounds}
 use Rattle.boundary.specs.Boxes.{box_fits}
-use Rattle.accept.specs.declared.Answer.{Answer}
-use Rattle.accept.specs.declared.CountFields.{CountFields}
-use Rattle.accept.specs.declared.Answer.TheVariants.{Refused, Count}
 use Rattle.accept.specs.declared.Refusal.TheVariants.{BadBox, ShortBuffer}
-use Rattle.accept.specs.declared.Test.{Test}
-use Rattle.accept.specs.Answers.{Outcome, count_fields, in_fields}
+use Rattle.accept.specs.Answers.{Outcome, count_fields, in_fields, Fields}
 use Rattle.lists.specs.Lists.{at_front}
-use Rattle.accept.specs.Refusals.{given, ◌refusing◌when◌}
+use Rattle.accept.specs.Refusals.{Answer, Test, given, ◌refusing◌when◌}
 use Rattle.tree.specs.Tree.{index_of}
 use Rattle.index.specs.Buffer.{IndexBuffer, short_buffer, cleared}
 use Rattle.index.specs.Answers.{boxes_tested}
@@ -36,16 +32,16 @@ listing v c B S =
     record { answer = length items; lent = record { buffer = cleared B; list = at_front items S } }
 
 -- what every call leaves
-unfoldable pub meeting_outcome : List Float → Bounds → IndexBuffer → List ℕ → Outcome Answer MeetingLent
+unfoldable pub meeting_outcome : List Float → Bounds → IndexBuffer → List ℕ → Outcome (Answer ℕ) MeetingLent
 unfolding meeting_tested given listing
 meeting_outcome v c B S = given (meeting_tested v c B S)
-    (record { answer = Count (listing v c B S).answer; lent = (listing v c B S).lent })
-    (λ r. record { answer = Refused r; lent = record { buffer = B; list = S } })
+    (record { answer = Ok (listing v c B S).answer; lent = (listing v c B S).lent })
+    (λ r. record { answer = Err r; lent = record { buffer = B; list = S } })
 
 -- the same, with the answer in its fields
-abbrev pub meeting_call : List Float → Bounds → IndexBuffer → List ℕ → Outcome CountFields MeetingLent
+abbrev pub meeting_call : List Float → Bounds → IndexBuffer → List ℕ → Outcome (Fields ℕ) MeetingLent
 meeting_call v c B S = in_fields count_fields (meeting_outcome v c B S)
 
 -- the numbers that a call lists: as many of the first places of its list as it counts, and so none where it is refused
 unfoldable pub listed_by : List Float → Bounds → IndexBuffer → List ℕ → List ℕ
-listed_by v c B S = take (meeting_call v c B S).answer.count (meeting_call v c B S).lent.list
+listed_by v c B S = take (meeting_call v c B S).answer.value (meeting_call v c B S).lent.list

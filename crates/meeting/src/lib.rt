@@ -5,8 +5,7 @@ ghost use Rattle.std.specs.Prelude.{◌≡◌, not, ◌∷◌, [], ◌+◌, ◌�
 ghost use Rattle.boundary.specs.Boxes.{box_fits};
 ghost use Rattle.lists.specs.Lists.{run};
 ghost use Rattle.accept.specs.declared.Refusal.TheVariants.{BadBox, ShortBuffer};
-ghost use Rattle.accept.specs.declared.Test.TheVariants.{Passed};
-ghost use Rattle.accept.specs.Refusals.{◌refusing◌when◌};
+ghost use Rattle.accept.specs.Refusals.{all_passed, ◌refusing◌when◌};
 ghost use Rattle.boxes.specs.BoxLists.{box_at};
 ghost use Rattle.nodes.specs.Layout.{item_at};
 ghost use Rattle.index.specs.Buffer.{buffer, short_sizes};
@@ -15,8 +14,8 @@ ghost use Rattle.meeting.specs.Meeting.{apart};
 ghost use Rattle.meeting.specs.Walk.{hits, found, put_from};
 ghost use Rattle.meeting.specs.Answers.{listing, meeting_outcome};
 
-use accept::refusals::{box_fits, refusing};
-use accept::{Answer, Refusal, Test};
+use accept::Refusal;
+use accept::refusals::{box_fits, refuse_when};
 use boundary::Bounds;
 use index::building;
 use index::refusals::{boxes_tested, short_index};
@@ -95,7 +94,7 @@ fn listed(
     list: &mut [u32],
 ) -> usize
     requires { Accepted boxes.now (length corners.old) (length links.old) (length items.old)
-        × (boxes_tested boxes.now ≡ Passed) × (1024 ≤ length list.old) }
+        × (boxes_tested boxes.now ≡ all_passed) × (1024 ≤ length list.old) }
     ensures { record {
       answer = result;
       lent = record { buffer = buffer corners.new links.new items.new; list = list.new };
@@ -115,20 +114,24 @@ fn listed(
 
 // The tests of `meeting`, in lists of so many corner numbers, link numbers and items, and for so many
 // items listed.
-fn tested(boxes: &[f64], c: Bounds, corners: usize, links: usize, items: usize, list: usize) -> Test
+fn tested(
+    boxes: &[f64],
+    c: Bounds,
+    corners: usize,
+    links: usize,
+    items: usize,
+    list: usize,
+) -> Result<(), Refusal>
     ensures { result ≡ (boxes_tested boxes.now refusing BadBox when not (box_fits c)
         refusing ShortBuffer when short_sizes corners links items refusing ShortBuffer when ltb list 1024) }
 {
-    let cell = refusing(boxes_tested(boxes), Refusal::BadBox, !box_fits(c));
-    let room = refusing(
-        cell,
-        Refusal::ShortBuffer,
-        short_index(corners, links, items),
-    );
-    refusing(room, Refusal::ShortBuffer, list < 1024)
+    boxes_tested(boxes)?;
+    refuse_when(!box_fits(c), Refusal::BadBox)?;
+    refuse_when(short_index(corners, links, items), Refusal::ShortBuffer)?;
+    refuse_when(list < 1024, Refusal::ShortBuffer)
 }
 
-// The items of each leaf of the boxes' index whose box shares a point with the cell.
+// The items of each leaf of the boxes' index whose box shares a point with the cell: how many there are.
 pub fn meeting(
     boxes: &[f64],
     c: Bounds,
@@ -136,23 +139,20 @@ pub fn meeting(
     links: &mut [u32],
     items: &mut [u32],
     list: &mut [u32],
-) -> Answer
+) -> Result<u32, Refusal>
     ensures { record {
       answer = result;
       lent = record { buffer = buffer corners.new links.new items.new; list = list.new };
     }
         ≡ meeting_outcome boxes.now c (buffer corners.old links.old items.old) list.old }
 {
-    let t = tested(
+    tested(
         boxes,
         c,
         corners.len(),
         links.len(),
         items.len(),
         list.len(),
-    );
-    match t {
-        Test::Passed => Answer::Count(listed(boxes, c, corners, links, items, list) as u32),
-        Test::Failed(r) => Answer::Refused(r),
-    }
+    )?;
+    Ok(listed(boxes, c, corners, links, items, list) as u32)
 }

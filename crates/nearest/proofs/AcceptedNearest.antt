@@ -1,4 +1,6 @@
 -- WHAT A CALL THAT PASSES THE TESTS ANSWERS: the nearest outline, as the Rust's walk does, and 'none' over an empty set only. Assumes nothing.
+use Rattle.std.proofs.Common.{Ok, Err}
+use Rattle.accept.specs.Refusals.{Answer, all_passed}
 use mathlib.Core.Path.{◌≡◌, sym, ap, subst, ◌∙◌}
 use mathlib.Core.List.{List}
 use Prim.Native.Nat.{ℕ, ◌<◌}
@@ -11,7 +13,6 @@ use Rattle.number.specs.Exact.{Doubles}
 use Rattle.boundary.specs.declared.Point.{Point}
 use Rattle.boundary.specs.Boxes.{DoublePoint, FieldPoint}
 use Rattle.boundary.proofs.FieldLaws.{double_point_field}
-use Rattle.accept.specs.declared.Test.TheVariants.{Passed}
 use Rattle.accept.specs.Answers.{Outcome}
 use Rattle.index.specs.Buffer.{IndexBuffer}
 use Rattle.set.specs.Set.{Outline, outlines_of}
@@ -20,21 +21,19 @@ use Rattle.set.specs.Answers.{Ready}
 use Rattle.set.proofs.SetLaws.{outlines_length, doubles_outlines}
 use Rattle.set.proofs.AskLaws.{query_passed, query_worked}
 use Rattle.search.specs.declared.Best.{Best}
-use Rattle.nearest.specs.declared.Nearest.{Nearest}
-use Rattle.nearest.specs.declared.Nearest.TheVariants.{Refused, None, At}
 use Rattle.nearest.specs.Nearest.{nearest_in, NearestIs}
 use Rattle.nearest.specs.Answers.{nearest_outcome}
 use Rattle.nearest.specs.Rust.{walk_of}
 use Rattle.nearest.proofs.NearestLeast.{nearest_least, nearest_none}
 use Rattle.nearest.proofs.RustLaws.{walk_is}
 
-module _ (v : List Float) (cs : List ℕ) (p : Point) (B : IndexBuffer) (passed : set_query_tested v cs p B ≡ Passed) where
+module _ (v : List Float) (cs : List ℕ) (p : Point) (B : IndexBuffer) (passed : set_query_tested v cs p B ≡ all_passed) where
   abbrev os : List Outline
   os = outlines_of v cs
 
   answer_is : (nearest_outcome v cs p B).answer ≡ nearest_in os p
   unfolding nearest_outcome
-  answer_is = ap (λ (o : Outcome Nearest IndexBuffer). o.answer) (query_worked v cs p B (nearest_in os p) Refused passed)
+  answer_is = ap (λ (o : Outcome Nearest IndexBuffer). o.answer) (query_worked v cs p B (nearest_in os p) Err passed)
 
   -- NONE exactly where the set is empty
   pub none_where_empty : length cs ≡ 0 → (nearest_outcome v cs p B).answer ≡ None
@@ -52,7 +51,7 @@ module _ (v : List Float) (cs : List ℕ) (p : Point) (B : IndexBuffer) (passed 
     point_of_field = double_point_field point (subst T (sym (query_passed v cs p B passed).point) tt)
 
     -- NEAREST: of a set that has an outline, one with the least magnitude, and of those the one with the lowest number
-    pub answers_nearest : 0 < length cs → (b : Best) × ((nearest_outcome v cs p B).answer ≡ At b) × NearestIs os p b
+    pub answers_nearest : 0 < length cs → (b : Best) × ((nearest_outcome v cs p B).answer ≡ OkSome b) × NearestIs os p b
     answers_nearest some =
         let n = outlines_length v cs in
         let h = nearest_least os p set_ready.fitting (doubles_outlines v cs set_ready.fit held) point_of_field (λ z. omega arith) in

@@ -1,4 +1,5 @@
 -- What the *nearest answer* is, of every set of `f64`s that passes the tests: the least magnitude, with the lowest number among the outlines that have it, and 'none' over an empty set only. Assumes nothing.
+use Rattle.std.proofs.Common.{Ok}
 use mathlib.Core.Path.{◌≡◌, refl}
 use mathlib.Core.Bool.{Bool, true, false, cond}
 use mathlib.Core.List.{List}
@@ -16,7 +17,6 @@ use Rattle.search.specs.declared.Best.{Best}
 use Rattle.search.specs.Least.{magnitude_at, least_in}
 use Rattle.search.proofs.LeastLaws.{Upto, LeastOutline, least_of_lem}
 use Rattle.search.proofs.GapLaws.{magnitude_number}
-use Rattle.nearest.specs.declared.Nearest.TheVariants.{None, At}
 use Rattle.nearest.specs.Nearest.{nearest_in, NearestIs, nearest_fields}
 
 module _ (os : List Outline) (p : Point) where
@@ -34,7 +34,7 @@ module _ (os : List Outline) (p : Point) where
   }
 
   -- NEAREST: the answer where there is an outline
-  pub nearest_least : Fitting os → DoubleSet os → FieldPoint p → (length os ≡ 0 → ⊥) → (b : Best) × (nearest_in os p ≡ At b) × NearestIs os p b
+  pub nearest_least : Fitting os → DoubleSet os → FieldPoint p → (length os ≡ 0 → ⊥) → (b : Best) × (nearest_in os p ≡ OkSome b) × NearestIs os p b
   unfolding nearest_in
   nearest_least fit held P some = (
     least_in os p,
@@ -50,7 +50,7 @@ module _ (os : List Outline) (p : Point) where
   unfolding nearest_in
   nearest_none = go (eqb (length os) 0) refl
     where
-      go : (t : Bool) → eqb (length os) 0 ≡ t → cond t None (At (least_in os p)) ≡ None → length os ≡ 0
+      go : (t : Bool) → eqb (length os) 0 ≡ t → cond t None (OkSome (least_in os p)) ≡ None → length os ≡ 0
       go true e h = eqb-true (length os) 0 e
       go false e h = let z : ◌≡◌ {A = ℕ} 0 1 = cc in absurd (omega arith)
 

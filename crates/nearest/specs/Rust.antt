@@ -1,4 +1,6 @@
 -- `nearest` in the Rust's own names and order (document 01, index.rs): nodes wait, the least by gap, then by number, is taken out, and the walk ends where its gap is above the best. Definitions only.
+use Rattle.std.specs.Prelude.{Ok, Err}
+use Rattle.accept.specs.Refusals.{Answer}
 use Rattle.std.specs.Prelude.{Bool, false, not, cond, ◌&&◌, ◌||◌, List, [], ◌∷◌, ◌++◌, ℕ, zero, suc, ◌+◌, eqb, ltb, length, Float}
 use Rattle.std.specs.Float.Ieee.{lt}
 use Rattle.boundary.specs.declared.Point.{Point}
@@ -10,8 +12,6 @@ use Rattle.nodes.specs.Layout.{extra}
 use Rattle.set.specs.Set.{Outline, set_boxes}
 use Rattle.search.specs.Least.{magnitude_of, magnitude_at}
 use Rattle.search.specs.Walk.{improved}
-use Rattle.nearest.specs.declared.Nearest.{Nearest}
-use Rattle.nearest.specs.declared.Nearest.TheVariants.{Refused, None, At}
 
 -- a node that waits: its gap, its number, the first number of those below it, and its tree
 pub record Waiting : Type 0 where
@@ -41,9 +41,9 @@ least_out x (y ∷ ys) =
 
 -- outline k is looked at
 abbrev pub chosen : (ℕ → Float) → Nearest → ℕ → Nearest
-chosen D None k = At (record { outline = k; distance = D k })
-chosen D (At b) k = At (improved b k (D k))
-chosen D (Refused r) k = Refused r
+chosen D None k = OkSome (record { outline = k; distance = D k })
+chosen D (OkSome b) k = OkSome (improved b k (D k))
+chosen D (Err r) k = Err r
 
 -- a leaf's items in order; an inner node has none of its own
 unfoldable pub looked : (ℕ → Float) → Nearest → Tree → Nearest
@@ -64,8 +64,8 @@ waiting_after p o = o.rest ++ opened p o.first.next o.first.tree
 -- the gap is above the best
 abbrev pub too_far : Nearest → Float → Bool
 too_far None g = false
-too_far (At b) g = lt b.distance g
-too_far (Refused r) g = false
+too_far (OkSome b) g = lt b.distance g
+too_far (Err r) g = false
 
 -- as many turns as f at most
 unfoldable pub walk_on : ℕ → (ℕ → Float) → Point → List Waiting → Nearest → Nearest

@@ -1,8 +1,4 @@
--- Laws of node records.
+-- Laws of the node records.
 
--- What the records tell.
+-- The nodes of an index buffer as records, and all that the call leaves.
 pub mod RecordLaws
--- The machine value of a `Recording`.
-pub mod RecordingIs
--- A local array in memory.
-pub mod LocalArray

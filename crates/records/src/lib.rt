@@ -1,26 +1,18 @@
 // The tree as a list of node records.
 #![tactic(auto)]
 
-ghost use Rattle.std.specs.Prelude.{◌≡◌, ◌≤◌, ◌<◌, ◌^◌, ◌++◌, length, take, drop};
+ghost use Rattle.std.specs.Prelude.{◌≡◌, ◌≤◌, ◌<◌, ◌^◌, length};
 ghost use Rattle.lists.specs.Lists.{run, at_front};
-ghost use Rattle.accept.specs.declared.Test.TheVariants.{Passed};
+ghost use Rattle.accept.specs.Refusals.{all_passed};
 ghost use Rattle.tree.specs.Tree.{index_of};
+ghost use Rattle.nodes.specs.Layout.{nodes_of};
 ghost use Rattle.index.specs.Answers.{boxes_tested};
-ghost use Rattle.records.specs.Records.{node_in, blank_nodes, nodes_tested, recording, records_outcome};
+ghost use Rattle.records.specs.Records.{node_in, nodes_tested, recorded, records_outcome};
 
-use accept::refusals::refusing;
-use accept::{Refusal, Test};
-use boundary::Point;
-use index::{building, refusals};
+use accept::Refusal;
+use accept::refusals::refuse_when;
+use index::{TreeSize, building, refusals};
 use nodes::{IndexView, Node};
-
-// What the call returns, how many nodes there are, and the nodes, at the front of a list.
-#[derive(Clone, Copy)]
-pub struct Recording {
-    pub number: u32,
-    pub count: usize,
-    pub list: [Node; 511],
-}
 
 // Node i of an index buffer.
 fn node_in(view: &IndexView, i: usize) -> Node
@@ -36,36 +28,22 @@ fn node_in(view: &IndexView, i: usize) -> Node
     }
 }
 
-// Zeros.
-fn blank() -> [Node; 511]
-    ensures { result ≡ blank_nodes }
+// Puts the first n nodes of an index buffer to the front of a lent list.
+fn put_nodes(view: &IndexView, n: usize, nodes: &mut [Node])
+    requires { (n ≤ 511) × (n ≤ length nodes.old) }
+    ensures { nodes.new ≡ at_front (run (node_in view.now.corners.now view.now.links.now) 0 n) nodes.old }
 {
-    let p = Point { x: 0.0, y: 0.0 };
-    let none = Node {
-        lo: p,
-        hi: p,
-        first: 0,
-        count: 0,
-    };
-    [none; 511]
-}
-
-// The first n nodes of an index buffer, at the front of a list.
-fn listed(view: &IndexView, n: usize) -> [Node; 511]
-    requires { n ≤ 511 }
-    ensures { result ≡ at_front (run (node_in view.now.corners.now view.now.links.now) 0 n) blank_nodes }
-{
-    let mut list = blank();
-    for (i, place) in list[..n].iter_mut().enumerate() {
-        *place = node_in(view, i);
+    for i in 0..n {
+        nodes[i] = node_in(view, i);
     }
-    list
 }
 
-// The index of a list of boxes that passes the tests, as records, and its items.
-fn recorded(boxes: &[f64], items: &mut [u32]) -> Recording
-    requires { (boxes_tested boxes.now ≡ Passed) × (1024 ≤ length items.old) }
-    ensures { record { answer = result; lent = items.new } ≡ recording (index_of boxes.now) items.old }
+// Puts the index of a list of boxes that passes the tests, as records, and its items to the front of two lent lists:
+// the number of nodes.
+fn record(boxes: &[f64], nodes: &mut [Node], items: &mut [u32]) -> usize
+    requires { (boxes_tested boxes.now ≡ all_passed) × (511 ≤ length nodes.old) × (1024 ≤ length items.old) }
+    ensures { (result ≡ length (nodes_of (index_of boxes.now)))
+        × (record { nodes = nodes.new; items = items.new } ≡ recorded (index_of boxes.now) nodes.old items.old) }
 {
     let mut corners = [0.0; 2044];
     let mut links = [0; 1022];
@@ -75,67 +53,28 @@ fn recorded(boxes: &[f64], items: &mut [u32]) -> Recording
         links: &links,
         items,
     };
-    let list = listed(&view, count);
-    Recording {
-        number: 0,
-        count,
-        list,
-    }
+    put_nodes(&view, count, nodes);
+    count
 }
 
 // The tests of the call.
-fn nodes_tested(boxes: &[f64], nodes: usize, items: usize) -> Test
+fn nodes_tested(boxes: &[f64], nodes: usize, items: usize) -> Result<(), Refusal>
     ensures { result ≡ nodes_tested boxes.now nodes items }
 {
-    let room = refusing(
-        refusals::boxes_tested(boxes),
-        Refusal::ShortBuffer,
-        nodes < 511,
-    );
-    refusing(room, Refusal::ShortBuffer, items < 1024)
+    refusals::boxes_tested(boxes)?;
+    refuse_when(nodes < 511, Refusal::ShortBuffer)?;
+    refuse_when(items < 1024, Refusal::ShortBuffer)
 }
 
-// The same of any list of boxes, where there is room for so many records, and how many nodes and items
-// there are.
-pub fn records(
-    boxes: &[f64],
-    room: usize,
-    items: &mut [u32],
-    node_count: &mut u32,
-    item_count: &mut u32,
-) -> Recording
-    ensures { record {
-      answer = result;
-      lent = record { node_count = node_count.new; item_count = item_count.new; items = items.new };
-    }
-        ≡ records_outcome boxes.now room items.old }
+// The index of any list of boxes as records, in lent lists.
+pub fn records(boxes: &[f64], nodes: &mut [Node], items: &mut [u32]) -> Result<TreeSize, Refusal>
+    ensures { record { answer = result; lent = record { nodes = nodes.new; items = items.new } }
+        ≡ records_outcome boxes.now nodes.old items.old }
 {
-    let t = nodes_tested(boxes, room, items.len());
-    match t {
-        Test::Passed => {
-            let made = recorded(boxes, items);
-            let n = made.count;
-            *node_count = n as u32;
-            *item_count = (boxes.len() / 4) as u32;
-            made
-        }
-        Test::Failed(r) => {
-            *node_count = 0;
-            *item_count = 0;
-            let list = blank();
-            Recording {
-                number: accept::refusals::number_of(r),
-                count: 0,
-                list,
-            }
-        }
-    }
-}
-
-// Writes the first n nodes of a list to the front of a lent list.
-pub fn offer(nodes: &mut [Node], list: [Node; 511], n: usize)
-    requires { (n ≤ 511) × (n ≤ length nodes.old) }
-    ensures { nodes.new ≡ take n list ++ drop n nodes.old }
-{
-    nodes[..n].copy_from_slice(&list[..n]);
+    nodes_tested(boxes, nodes.len(), items.len())?;
+    let count = record(boxes, nodes, items) as u32;
+    Ok(TreeSize {
+        nodes: count,
+        items: (boxes.len() / 4) as u32,
+    })
 }

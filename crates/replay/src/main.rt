@@ -4,60 +4,89 @@
 // length and its floats or bytes.
 #![tactic(auto)]
 
+mod arguments;
 mod indexes;
 mod numbers;
+mod operation;
 mod outlines;
 mod sets;
 mod streams;
 
-use sample::read;
+use arguments::{Cell, Lent, Point};
+use operation::{Operation, Query, UnknownName};
 use sample::read::Reader;
 use std::io;
-use std::io::{BufWriter, Read, Write};
-
-// The operations' names in base 256.
-const SQRT: u64 = 0x7371_7274;
-
-const HYPOT: u64 = 0x68_7970_6f74;
-
-const GDSII: u64 = 0x67_6473_6969;
+use std::io::{BufReader, BufWriter, Read, Write};
 
 // Makes the call that the name stands for; its arguments are what the reader has next.
-fn answer<R: Read, W: Write>(
-    name: u64,
-    input: &mut R,
+fn answer<R: Read + Drop, W: Write>(
+    name: &[u8],
+    input: &mut Reader<R>,
     to: &mut W,
-    buf: &mut [u8],
-    r: Reader,
-) -> io::Result<Reader> {
-    if name == SQRT {
-        return numbers::sqrt(input, to, buf, r);
+) -> io::Result<()> {
+    match Operation::try_from(name) {
+        Ok(Operation::Sqrt) => numbers::sqrt(to, input.value()),
+        Ok(Operation::Hypot) => numbers::hypot(to, input.value(), input.value()),
+        Ok(Operation::Gdsii) => {
+            let mut bytes = [0; 512];
+            streams::read(
+                to,
+                input.list(&mut bytes),
+                Lent::read(input),
+                Lent::read(input),
+            )
+        }
+        Ok(Operation::Of(query)) => {
+            let mut floats = [0.0; 64];
+            let v = input.list(&mut floats);
+            ask(query, v, input, to)
+        }
+        Err(UnknownName) => {
+            let mut floats = [0.0; 64];
+            input.list(&mut floats);
+            writeln!(to, "unknown")
+        }
     }
-    if name == HYPOT {
-        return numbers::hypot(input, to, buf, r);
-    }
-    if name == GDSII {
-        return streams::answer(input, to, buf, r);
-    }
-    outlines::answer(name, input, to, buf, r)
 }
 
-// A proved loop has to end, and nothing says that the input does: so this loop and those of the reader
-// count their turns down, from a number that no run uses up.
-fn main(rt: HostRuntime) -> io::Result<()> {
-    let mut input = rt.stdin();
-    let mut to = BufWriter::new(rt.alloc(), rt.stdout())?;
-    let mut space = [0u8; 4096];
-    let buf: &mut [u8] = &mut space;
-    let mut r = read::start();
-    let mut turns = u64::MAX;
-    while turns > 0 {
-        let name = read::word(&mut input, buf, r);
-        if name.len == 0 {
-            return to.flush();
+// Makes the call that asks about a list of floats; its other arguments are what the reader has next.
+fn ask<R: Read + Drop, W: Write>(
+    query: Query,
+    v: &[f64],
+    input: &mut Reader<R>,
+    to: &mut W,
+) -> io::Result<()> {
+    let mut counts = [0; 16];
+    let mut points = [0.0; 520];
+    match query {
+        Query::Area => outlines::area(to, v),
+        Query::Perimeter => outlines::perimeter(to, v),
+        Query::Bounds => outlines::bounds(to, v),
+        Query::Contains => outlines::contains(to, v, Point::read(input)),
+        Query::Locate => outlines::locate(to, v, Point::read(input)),
+        Query::Distance => outlines::distance(to, v, Point::read(input)),
+        Query::Make => outlines::make(to, v, Lent::read(input)),
+        Query::Fill => outlines::fill(to, v, Cell::read(input), Lent::read(input)),
+        Query::Ellipse => outlines::ellipse(to, v),
+        Query::Build => indexes::build(to, v),
+        Query::Meeting => indexes::meeting(to, v, Cell::read(input)),
+        Query::AnyAt => sets::any_at(to, v, input.list(&mut counts), Point::read(input)),
+        Query::Nearest => sets::nearest(to, v, input.list(&mut counts), Point::read(input)),
+        Query::NearestMany => {
+            let counts = input.list(&mut counts);
+            sets::nearest_many(to, v, counts, input.list(&mut points), input.value())
         }
-        r = answer(name.text, &mut input, &mut to, buf, name.reader)?;
-        turns -= 1;
+    }
+}
+
+// A proved loop has to end, and nothing says that the input does: so this loop counts to a number that no
+// run reaches.
+fn main(rt: HostRuntime) -> io::Result<()> {
+    let mut input = Reader::new(BufReader::new(rt.alloc(), rt.stdin())?);
+    let mut to = BufWriter::new(rt.alloc(), rt.stdout())?;
+    for _ in 0..u64::MAX {
+        let Some(name) = input.word() else { break };
+        answer(name.name(), &mut input, &mut to)?;
     }
     to.flush()
 }

@@ -1,29 +1,12 @@
 // The number helpers: vk_sqrt and vk_hypot.
-use sample::read::Reader;
-use sample::{floats, read};
+use sample::floats::Bits;
 use std::io;
-use std::io::{Read, Write};
+use std::io::Write;
 
-pub fn sqrt<R: Read, W: Write>(
-    input: &mut R,
-    to: &mut W,
-    buf: &mut [u8],
-    r: Reader,
-) -> io::Result<Reader> {
-    let x = read::word(input, buf, r);
-    floats::print(to, viskunor::vk_sqrt(floats::float(x.number)))?;
-    Ok(x.reader)
+pub fn sqrt<W: Write>(to: &mut W, x: f64) -> io::Result<()> {
+    writeln!(to, "{}", Bits(viskunor::vk_sqrt(x)))
 }
 
-pub fn hypot<R: Read, W: Write>(
-    input: &mut R,
-    to: &mut W,
-    buf: &mut [u8],
-    r: Reader,
-) -> io::Result<Reader> {
-    let a = read::word(input, buf, r);
-    let b = read::word(input, buf, a.reader);
-    let length = viskunor::vk_hypot(floats::float(a.number), floats::float(b.number));
-    floats::print(to, length)?;
-    Ok(b.reader)
+pub fn hypot<W: Write>(to: &mut W, a: f64, b: f64) -> io::Result<()> {
+    writeln!(to, "{}", Bits(viskunor::vk_hypot(a, b)))
 }

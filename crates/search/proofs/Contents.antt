@@ -13,7 +13,7 @@ use lib.ListN.{length, get_or, set, length-set}
 use lib.Seq.{get_or-set_same, get_or-set_other}
 use lib.Ieee.{Float, nan, inf, fin}
 use Rattle.search.specs.declared.Entry.{Entry}
-use Rattle.search.specs.Heap.{entry_at, total_weight}
+use Rattle.search.specs.Heap.{no_entry, entry_at, total_weight}
 use Rattle.search.specs.Sifts.{exchanged}
 
 -- ---- g is f with the entries at i and j exchanged
@@ -35,11 +35,11 @@ exchanged_left d l i j I J = go (ℕ_discrete i j)
 exchanged_rest : {A : Type 0} (d : A) (l : List A) (i j k : ℕ) → (k ≡ i → ⊥) → (k ≡ j → ⊥) → get_or (exchanged d l i j) k d ≡ get_or l k d
 exchanged_rest d l i j k ki kj = get_or-set_other (set l i (get_or l j d)) j k (get_or l i d) d kj ∙ get_or-set_other l i k (get_or l j d) d ki
 
-pub exchanged_swap : (N : List ℕ) (G : List Float) {N' : List ℕ} {G' : List Float} (i j : ℕ) → N' ≡ exchanged 0 N i j → G' ≡ exchanged nan G i j → i < length N → i < length G → j < length N → j < length G → Swap (entry_at N G) (entry_at N' G') i j
-exchanged_swap N G i j n g iN iG jN jG = record {
-  left = rw (n, g, exchanged_left 0 N i j iN jN, exchanged_left nan G i j iG jG);
-  right = rw (n, g, exchanged_right 0 N i j jN, exchanged_right nan G i j jG);
-  rest = λ k ki kj. rw (n, g, exchanged_rest 0 N i j k ki kj, exchanged_rest nan G i j k ki kj);
+pub exchanged_swap : (E : List Entry) {E' : List Entry} (i j : ℕ) → E' ≡ exchanged no_entry E i j → i < length E → j < length E → Swap (entry_at E) (entry_at E') i j
+exchanged_swap E i j e I J = record {
+  left = rw e (exchanged_left no_entry E i j I J);
+  right = rw e (exchanged_right no_entry E i j J);
+  rest = λ k ki kj. rw e (exchanged_rest no_entry E i j k ki kj);
 }
 
 -- what holds of every entry still does

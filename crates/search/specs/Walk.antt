@@ -69,11 +69,6 @@ pub record Searched (os : List Outline) (B : IndexBuffer) : Type 0 where
   pub covers : EachNode (λ b is. (i : ℕ) → In i is → Covered os b i) tree
   pub held : EachNode (λ b _. DoubleBox b) tree
 
--- lists for a heap of the nodes that wait: 512 places
-pub record HeapSpace (N : List ℕ) (G : List Float) : Type 0 where
-  pub nodes : length N ≡ 512
-  pub gaps : length G ≡ 512
-
 -- both of two entries came into the heap f of n, which became k
 pub record Opened (f : ℕ → Entry) (n : ℕ) (x y : Entry) (k : ℕ → Entry) : Type 0 where
   pub between : ℕ → Entry

@@ -4,7 +4,6 @@
 pub mod heap;
 
 ghost use Rattle.std.specs.Prelude.{◌≡◌, ℕ, ◌+◌, ◌<◌, ◌^◌, length};
-ghost use Rattle.boundary.specs.Boxes.{gap_squares_of};
 ghost use Rattle.lists.specs.Lists.{run, In};
 ghost use Rattle.distance.specs.Search.{gap_squares};
 ghost use Rattle.search.specs.Order.{NumberGap};
@@ -15,8 +14,9 @@ ghost use Rattle.index.specs.Buffer.{buffer};
 ghost use Rattle.set.specs.Set.{outlines_of};
 ghost use Rattle.set.specs.Answers.{Boxed};
 ghost use Rattle.search.specs.Least.{magnitude_at, least_in};
-ghost use Rattle.search.specs.Walk.{improved, kept_with, none_kept, Clear, best_of, Asked, Searched, Opened, entry_for, diagonal_of, HeapSpace};
+ghost use Rattle.search.specs.Walk.{improved, kept_with, none_kept, Clear, best_of, Asked, Searched, Opened, entry_for, diagonal_of};
 
+use crate::heap::Waiting;
 use boundary::{Edge, Point, out_along};
 use distance::nearest::{gap_squares, nearest_edge, squares_to};
 use number::root::hypot;
@@ -43,14 +43,15 @@ pub struct Kept {
     pub far: f64,
 }
 
-// How far p is outside the box of the node n, squared.
-fn gap(corners: &[f64], n: u32, p: Point) -> f64
-    ensures { result ≡ gap_squares_of (box_at corners.now n) p }
+// The entry of a node: its gap is how far p is outside its box, squared.
+fn entry_for(corners: &[f64], node: u32, p: Point) -> Entry
+    ensures { result ≡ entry_for corners.now p node }
 {
-    let b = boxes::box_at(corners, n as usize);
+    let b = boxes::box_at(corners, node as usize);
     let x = out_along(b.min.x, b.max.x, p.x);
     let y = out_along(b.min.y, b.max.y, p.y);
-    x * x + y * y
+    let gap = x * x + y * y;
+    Entry { gap, node }
 }
 
 // Before the first look: the outline past the last of n, infinitely far.
@@ -138,28 +139,26 @@ fn look(
     ensures { (result.best ≡ best_of (magnitude_at (outlines_of v.now counts.now) p) start.best (run (item_at items.now) first count)) × Clear p result }
 {
     let mut kept = start;
-    let mut i = 0;
-    while i < count {
+    for i in 0..count {
         let k = lists::at(items, (first as usize) + (i as usize), 0);
         kept = look_at(v, counts, starts, boxes, k, p, kept);
-        i += 1;
     }
     kept
 }
 
 // The nodes first and first + 1 wait.
-fn wait_both(corners: &[f64], p: Point, first: u32, nodes: &mut [u32], gaps: &mut [f64], n: usize)
-    requires { ((n + 1 < length nodes.old) × (n + 1 < length gaps.old)) × (first + 1 < 2 ^ 32) × (Heaped (entry_at nodes.old gaps.old) n
+fn wait_both(corners: &[f64], p: Point, first: u32, waiting: &mut Waiting)
+    requires { (waiting.old.len + 1 < 512) × (first + 1 < 2 ^ 32) × (Heaped (entry_at waiting.old.entries) waiting.old.len
         × (NumberGap (entry_for corners.now p first) × NumberGap (entry_for corners.now p (first + 1)))) }
-    ensures { Opened (entry_at nodes.old gaps.old) n (entry_for corners.now p first) (entry_for corners.now p (first + 1)) (entry_at nodes.new gaps.new) }
+    ensures len { waiting.new.len ≡ waiting.old.len + 2 }
+    ensures opened { Opened (entry_at waiting.old.entries) waiting.old.len (entry_for corners.now p first) (entry_for corners.now p (first + 1)) (entry_at waiting.new.entries) }
 {
-    heap::push(nodes, gaps, n, first, gap(corners, first, p));
-    let second = first + 1;
-    heap::push(nodes, gaps, n + 1, second, gap(corners, second, p));
+    waiting.push(entry_for(corners, first, p));
+    waiting.push(entry_for(corners, first + 1, p));
 }
 
-// The nearest of the set's outlines, by a search of an index of it: the nodes that wait are in a heap, and the
-// search ends where the least gap is clearly above the best distance.
+// The nearest of the set's outlines, by a search of an index of it: the nodes that wait are in a heap, lent for
+// the search, and the search ends where the least gap is clearly above the best distance.
 pub fn search_in(
     v: &[f64],
     counts: &[u32],
@@ -169,30 +168,26 @@ pub fn search_in(
     corners: &[f64],
     links: &[u32],
     items: &[u32],
-    nodes: &mut [u32],
-    gaps: &mut [f64],
+    waiting: &mut Waiting,
 ) -> Best
     requires { Asked v.now counts.now starts.now p × Boxed (outlines_of v.now counts.now) boxes.now
-        × Searched (outlines_of v.now counts.now) (buffer corners.now links.now items.now) × (0 < length counts.now) × HeapSpace nodes.old gaps.old }
+        × Searched (outlines_of v.now counts.now) (buffer corners.now links.now items.now) × (0 < length counts.now) }
     ensures { result ≡ least_in (outlines_of v.now counts.now) p }
 {
-    heap::push(nodes, gaps, 0, 0, gap(corners, 0, p));
+    waiting.clear();
+    waiting.push(entry_for(corners, 0, p));
     let mut kept = none_kept(counts.len() as u32);
-    let mut n = 1;
-    while n > 0 {
-        let e = heap::pop(nodes, gaps, n);
+    while let Some(e) = waiting.pop() {
         if kept.far < e.gap {
             return kept.best;
         }
-        n -= 1;
         let k = 2 * (e.node as usize);
         let first = lists::at(links, k, 0);
         let count = lists::at(links, k + 1, 0);
         if count > 0 {
             kept = look(v, counts, starts, boxes, items, first, count, p, kept);
         } else {
-            wait_both(corners, p, first, nodes, gaps, n);
-            n += 2;
+            wait_both(corners, p, first, waiting);
         }
     }
     kept.best
@@ -213,9 +208,16 @@ pub fn search(
         × Searched (outlines_of v.now counts.now) (buffer corners.now links.now items.now) × (0 < length counts.now) }
     ensures { result ≡ least_in (outlines_of v.now counts.now) p }
 {
-    let mut nodes = [0; 512];
-    let mut gaps = [0.0; 512];
+    let mut waiting = Waiting::new();
     search_in(
-        v, counts, starts, boxes, p, corners, links, items, &mut nodes, &mut gaps,
+        v,
+        counts,
+        starts,
+        boxes,
+        p,
+        corners,
+        links,
+        items,
+        &mut waiting,
     )
 }

@@ -1,4 +1,5 @@
 -- What a query over a set that passes the tests has, what a query leaves, and the boxes and starts that it writes. Assumes nothing.
+use Rattle.std.proofs.Common.{Err}
 use mathlib.Core.Path.{◌≡◌, ap, ◌∙◌}
 use mathlib.Core.Bool.{true, false, ◌||◌}
 use mathlib.Core.List.{List}
@@ -13,8 +14,7 @@ use Rattle.boundary.specs.declared.Point.{Point}
 use Rattle.boundary.specs.Boxes.{point_in_field}
 use Rattle.lists.specs.Lists.{run}
 use Rattle.accept.specs.declared.Refusal.{Refusal}
-use Rattle.accept.specs.declared.Test.TheVariants.{Passed, Failed}
-use Rattle.accept.specs.Refusals.{◌refusing◌when◌}
+use Rattle.accept.specs.Refusals.{all_passed, ◌refusing◌when◌}
 use Rattle.accept.proofs.TestLaws.{refusing_passed, given_passed, given_failed}
 use Rattle.boxes.specs.BoxLists.{box_at}
 use Rattle.boxes.proofs.EntryLaws.{box_front}
@@ -31,7 +31,7 @@ use Rattle.set.proofs.SetLaws.{outlines_length, passed_fit, passed_fitting, boxe
 
 -- ---- what a query that passes the tests has
 -- a set that passes them, and an index buffer
-pub set_ready : (v : List Float) (cs : List ℕ) (B : IndexBuffer) → set_tested v cs ≡ Passed → short_buffer B ≡ false → Ready v cs B
+pub set_ready : (v : List Float) (cs : List ℕ) (B : IndexBuffer) → set_tested v cs ≡ all_passed → short_buffer B ≡ false → Ready v cs B
 set_ready v cs B passed long =
     let s = or_none (ltb (length B.corners) 2044) (ltb (length B.links) 1022 || ltb (length B.items) 1024) long in
     let t = or_none (ltb (length B.links) 1022) (ltb (length B.items) 1024) s.1 in
@@ -47,7 +47,7 @@ pub record QueryPassed (v : List Float) (cs : List ℕ) (p : Point) (B : IndexBu
   pub ready : Ready v cs B
   pub point : point_in_field p ≡ true
 
-pub query_passed : (v : List Float) (cs : List ℕ) (p : Point) (B : IndexBuffer) → set_query_tested v cs p B ≡ Passed → QueryPassed v cs p B
+pub query_passed : (v : List Float) (cs : List ℕ) (p : Point) (B : IndexBuffer) → set_query_tested v cs p B ≡ all_passed → QueryPassed v cs p B
 unfolding set_query_tested
 query_passed v cs p B e =
     let r = refusing_passed _ _ _ e in
@@ -55,19 +55,19 @@ query_passed v cs p B e =
     record { ready = set_ready v cs B q.0 r.1; point = not-false (point_in_field p) q.1 }
 
 -- and a query of a set and a point that pass theirs passes them
-pub query_passes : (v : List Float) (cs : List ℕ) (p : Point) (B : IndexBuffer) → set_tested v cs ≡ Passed → point_in_field p ≡ true → short_buffer B ≡ false → set_query_tested v cs p B ≡ Passed
+pub query_passes : (v : List Float) (cs : List ℕ) (p : Point) (B : IndexBuffer) → set_tested v cs ≡ all_passed → point_in_field p ≡ true → short_buffer B ≡ false → set_query_tested v cs p B ≡ all_passed
 unfolding set_query_tested ◌refusing◌when◌
 query_passes v cs p B s q b = rw (s, q, b)
 
 -- ---- what a query leaves
 module _ {A : Type 0} (v : List Float) (cs : List ℕ) (p : Point) (B : IndexBuffer) (a : A) (refused : Refusal → A) where
   -- its answer, and the buffer cleared
-  pub query_worked : set_query_tested v cs p B ≡ Passed → query_outcome v cs p B a refused ≡ worked a B
+  pub query_worked : set_query_tested v cs p B ≡ all_passed → query_outcome v cs p B a refused ≡ worked a B
   unfolding query_outcome
   query_worked e = given_passed e _ _
 
   -- where it is refused, the refusal, and the buffer as it was
-  pub query_refused : {r : Refusal} → set_query_tested v cs p B ≡ Failed r → query_outcome v cs p B a refused ≡ record { answer = refused r; lent = B }
+  pub query_refused : {r : Refusal} → set_query_tested v cs p B ≡ Err r → query_outcome v cs p B a refused ≡ record { answer = refused r; lent = B }
   unfolding query_outcome
   query_refused e = given_failed e _ _
 
@@ -77,7 +77,7 @@ module _ (v : List Float) (cs : List ℕ) where
   boxes_size = boxes_length (outlines_of v cs) ∙ ap (λ (n : ℕ). 4 * n) (outlines_length v cs)
 
   -- the front of a list that they are put into
-  pub boxes_front : (X₀ X : List Float) → 4 * length cs ≤ length X₀ → X ≡ sets X₀ 0 (set_boxes (outlines_of v cs)) → take (4 * length cs - 0) (drop 0 X) ≡ set_boxes (outlines_of v cs)
+  pub boxes_front : (X₀ X : List Float) → 4 * length cs ≤ length X₀ → X ≡ sets X₀ 0 (set_boxes (outlines_of v cs)) → take (4 * length cs) X ≡ set_boxes (outlines_of v cs)
   boxes_front X₀ X room e = front_of X₀ X (set_boxes (outlines_of v cs)) (4 * length cs) e boxes_size room
 
   -- and every place there

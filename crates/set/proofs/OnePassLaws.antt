@@ -7,8 +7,7 @@ use native.Mathlib.Omega.{arith}
 use Rattle.lists.specs.Lists.{any}
 use Rattle.lists.proofs.FoldLaws.{least_first, least_none}
 use Rattle.accept.specs.declared.Refusal.TheVariants.{NotFinite, OutsideField, EqualNeighbours, ZeroArea, NegativeArea}
-use Rattle.accept.specs.declared.Test.TheVariants.{Passed}
-use Rattle.accept.specs.Refusals.{◌refusing◌when◌, not_finite, outside_field, equal_neighbours, zero_area, negative_area, values_tested}
+use Rattle.accept.specs.Refusals.{all_passed, ◌refusing◌when◌, not_finite, outside_field, equal_neighbours, zero_area, negative_area, values_tested}
 use Rattle.set.specs.Set.{Outline}
 use Rattle.set.specs.Tests.{outlines_tested}
 use Rattle.set.specs.OnePass.{first_failed, least_failed, test_at, rank_of}
@@ -44,12 +43,12 @@ least_is os =
     ∙ ap (cond (any zero_area os) 8) (least_first negative_area (λ _. 10) 9 (λ _. omega arith) 10 os (omega arith)
     ∙ ap (cond (any negative_area os) 9) (least_none 10 os)))))
 
-pub least_tests : (os : List Outline) → test_at (least_failed os) ≡ outlines_tested os Passed
+pub least_tests : (os : List Outline) → test_at (least_failed os) ≡ outlines_tested os all_passed
 unfolding outlines_tested
 least_tests os = ap test_at (least_is os) ∙ go (any not_finite os) (any outside_field os) (any equal_neighbours os) (any zero_area os) (any negative_area os)
   where
     go : (a b c d e : Bool) → test_at (cond a 5 (cond b 6 (cond c 7 (cond d 8 (cond e 9 10)))))
-        ≡ (Passed refusing NotFinite when a refusing OutsideField when b refusing EqualNeighbours when c refusing ZeroArea when d refusing NegativeArea when e)
+        ≡ (all_passed refusing NotFinite when a refusing OutsideField when b refusing EqualNeighbours when c refusing ZeroArea when d refusing NegativeArea when e)
     go true b c d e = unfold test_at ◌refusing◌when◌ in refl
     go false true c d e = unfold test_at ◌refusing◌when◌ in refl
     go false false true d e = unfold test_at ◌refusing◌when◌ in refl

@@ -16,9 +16,7 @@ use Rattle.boundary.specs.Boxes.{FieldValue, FieldBox}
 use Rattle.lists.specs.Lists.{run, any}
 use Rattle.boundary.specs.Outline.{count}
 use Rattle.lists.proofs.FoldLaws.{any_at_lem, or_none, none_of}
-use Rattle.accept.specs.declared.Test.{Test}
-use Rattle.accept.specs.declared.Test.TheVariants.{Passed}
-use Rattle.accept.specs.Refusals.{not_finite, outside_field, equal_neighbours, zero_area, negative_area, outline_tested}
+use Rattle.accept.specs.Refusals.{Test, all_passed, not_finite, outside_field, equal_neighbours, zero_area, negative_area, outline_tested}
 use Rattle.accept.proofs.TestLaws.{Shape, tested, refusing_passed}
 use Rattle.boxes.specs.BoxLists.{box_count, box_at, box_numbers, boxes_of}
 use Rattle.boundary.specs.Boxes.{box_fits}
@@ -104,7 +102,7 @@ pub record Passing (os : List Outline) : Type 0 where
   pub nonzero : any zero_area os ≡ false
   pub positive : any negative_area os ≡ false
 
-outlines_passed : (os : List Outline) (t : Test) → outlines_tested os t ≡ Passed → (t ≡ Passed) × Passing os
+outlines_passed : (os : List Outline) (t : Test) → outlines_tested os t ≡ all_passed → (t ≡ all_passed) × Passing os
 unfolding outlines_tested
 outlines_passed os t e =
     let t9 = refusing_passed _ _ _ e in
@@ -114,12 +112,12 @@ outlines_passed os t e =
     let t5 = refusing_passed _ _ _ t6.0 in
     (t5.0, record { finite = t5.1; in_field = t6.1; apart = t7.1; nonzero = t8.1; positive = t9.1 })
 
-pub passing : (v : List Float) (cs : List ℕ) → set_tested v cs ≡ Passed → Passing (outlines_of v cs)
+pub passing : (v : List Float) (cs : List ℕ) → set_tested v cs ≡ all_passed → Passing (outlines_of v cs)
 unfolding set_tested
 passing v cs e = (outlines_passed (outlines_of v cs) (lists_tested v cs) e).1
 
 -- lists that pass
-pub lists_fit : (v : List Float) (cs : List ℕ) → lists_tested v cs ≡ Passed → Fit v cs
+pub lists_fit : (v : List Float) (cs : List ℕ) → lists_tested v cs ≡ all_passed → Fit v cs
 unfolding lists_tested
 lists_fit v cs e =
     let t4 = refusing_passed _ _ _ e in
@@ -137,7 +135,7 @@ lists_fit v cs e =
       most = λ k l. ltb-false 4096 (get_or cs k 0) (any_at_lem (λ n. ltb 4096 n) 0 cs k l few.0);
     }
 
-pub passed_fit : (v : List Float) (cs : List ℕ) → set_tested v cs ≡ Passed → Fit v cs
+pub passed_fit : (v : List Float) (cs : List ℕ) → set_tested v cs ≡ all_passed → Fit v cs
 unfolding set_tested
 passed_fit v cs e = lists_fit v cs (outlines_passed (outlines_of v cs) (lists_tested v cs) e).0
 
@@ -182,7 +180,7 @@ module _ (v : List Float) (cs : List ℕ) where
   doubles_outlines fit held k l = let n = outlines_length v cs in rw (outline_is v cs k) (outline_doubles v cs fit k (omega arith) held)
 
   -- THE OUTLINES of an accepted set
-  pub passed_fitting : set_tested v cs ≡ Passed → Fitting (outlines_of v cs)
+  pub passed_fitting : set_tested v cs ≡ all_passed → Fitting (outlines_of v cs)
   passed_fitting e =
       let n = outlines_length v cs in
       let f = passed_fit v cs e in
@@ -190,7 +188,7 @@ module _ (v : List Float) (cs : List ℕ) where
       record { size = omega arith; some = λ k l. rw (outline_is v cs k) (outline_some v cs f k (omega arith)); in_field = (passing v cs e).in_field }
 
 -- ---- an outline of an accepted set passes the tests of an outline
-module _ (v : List Float) (cs : List ℕ) (passed : set_tested v cs ≡ Passed) (k : ℕ) (l : k < length (outlines_of v cs)) where
+module _ (v : List Float) (cs : List ℕ) (passed : set_tested v cs ≡ all_passed) (k : ℕ) (l : k < length (outlines_of v cs)) where
   abbrev o : Outline
   o = outline_in (outlines_of v cs) k
 
@@ -206,7 +204,7 @@ module _ (v : List Float) (cs : List ℕ) (passed : set_tested v cs ≡ Passed) 
       let m : k < length cs = omega arith in
       (ap length (outline_is v cs k) ∙ outline_length v cs fit k m, fit.least k m, fit.most k m)
 
-  pub outline_passes : outline_tested (outline_in (outlines_of v cs) k) ≡ Passed
+  pub outline_passes : outline_tested (outline_in (outlines_of v cs) k) ≡ all_passed
   unfolding outline_tested
   outline_passes =
       let t = passing v cs passed in
@@ -272,7 +270,7 @@ module _ (os : List Outline) where
             ap (λ (b : Bounds). not (box_fits b)) (run_at (box_at (set_boxes os)) 0 (box_count (set_boxes os)) i (box_at (set_boxes os) 0) m ∙ ap (box_at (set_boxes os)) z ∙ box_at_set i l) ∙ ap not (box_fits_lem i l)
 
     -- the boxes pass tests 4 and 11
-    pub boxes_tested_lem : boxes_tested (set_boxes os) ≡ Passed
+    pub boxes_tested_lem : boxes_tested (set_boxes os) ≡ all_passed
     unfolding boxes_tested
     boxes_tested_lem =
         let n = boxes_length in

@@ -1,13 +1,11 @@
 -- Tests 5 to 9 of all outlines in one pass: each outline's first test that it does not pass, and the least of these. Definitions only.
-use Rattle.std.specs.Prelude.{cond, List, ℕ, min, eqb}
+use Rattle.std.specs.Prelude.{cond, List, ℕ, min, eqb, Err, Ok}
 use Rattle.std.specs.Float.Ieee.{neg, lt, le, eq}
 use Rattle.lists.specs.Lists.{fold, any}
 use Rattle.boundary.specs.Outline.{edges}
 use Rattle.accept.specs.declared.Refusal.TheVariants.{NotFinite, OutsideField, EqualNeighbours, ZeroArea, NegativeArea}
-use Rattle.accept.specs.declared.Test.{Test}
-use Rattle.accept.specs.declared.Test.TheVariants.{Passed, Failed}
 use Rattle.accept.specs.Area.{area_of}
-use Rattle.accept.specs.Refusals.{number, not_finite, outside_field, equal_neighbours, zero_area, negative_area}
+use Rattle.accept.specs.Refusals.{Test, all_passed, number, not_finite, outside_field, equal_neighbours, zero_area, negative_area}
 use Rattle.set.specs.Set.{Outline}
 
 -- the number of the first of the tests that an outline does not pass, 10 where it passes all
@@ -23,13 +21,13 @@ least_failed os = fold (λ n o. min n (first_failed o)) 10 os
 -- what such a number says
 unfoldable pub test_at : ℕ → Test
 test_at n =
-    cond (eqb n 5) (Failed NotFinite)
-    (cond (eqb n 6) (Failed OutsideField)
-    (cond (eqb n 7) (Failed EqualNeighbours)
-    (cond (eqb n 8) (Failed ZeroArea)
-    (cond (eqb n 9) (Failed NegativeArea) Passed))))
+    cond (eqb n 5) (Err NotFinite)
+    (cond (eqb n 6) (Err OutsideField)
+    (cond (eqb n 7) (Err EqualNeighbours)
+    (cond (eqb n 8) (Err ZeroArea)
+    (cond (eqb n 9) (Err NegativeArea) all_passed))))
 
 -- the number of what the tests say of an outline
 abbrev pub rank_of : Test → ℕ
-rank_of Passed = 10
-rank_of (Failed r) = number r
+rank_of (Ok _) = 10
+rank_of (Err r) = number r

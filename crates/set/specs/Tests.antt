@@ -5,9 +5,7 @@ use Rattle.boundary.specs.Boxes.{point_in_field}
 use Rattle.lists.specs.Lists.{any}
 use Rattle.boundary.specs.Outline.{count}
 use Rattle.accept.specs.declared.Refusal.TheVariants.{OddCount, BadCounts, TooFew, TooMany, NotFinite, OutsideField, EqualNeighbours, ZeroArea, NegativeArea, BadPoint, ShortBuffer}
-use Rattle.accept.specs.declared.Test.{Test}
-use Rattle.accept.specs.declared.Test.TheVariants.{Passed}
-use Rattle.accept.specs.Refusals.{◌refusing◌when◌, not_finite, outside_field, equal_neighbours, zero_area, negative_area}
+use Rattle.accept.specs.Refusals.{Test, all_passed, ◌refusing◌when◌, not_finite, outside_field, equal_neighbours, zero_area, negative_area}
 use Rattle.index.specs.Buffer.{IndexBuffer, short_buffer}
 use Rattle.set.specs.Set.{Outline, start_of, outlines_of}
 
@@ -32,7 +30,7 @@ over_size v cs = ltb 1024 (length cs) || ltb 65536 (count v)
 -- 1 to 4, of the lists that a call is lent
 unfoldable pub lists_tested : List Float → List ℕ → Test
 lists_tested v cs =
-    Passed
+    all_passed
     refusing OddCount when eqb (length v % 2) 1
     refusing BadCounts when not (adds_up v cs)
     refusing TooFew when any_few cs

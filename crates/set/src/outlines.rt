@@ -16,11 +16,9 @@ pub fn put_starts(counts: &[u32], starts: &mut [u32])
     ensures { starts.new ≡ sets starts.old 0 (run (start_of counts.now) 0 (length counts.now)) }
 {
     let mut sum = 0;
-    let mut k = 0;
-    while k < counts.len() {
+    for (k, count) in counts.iter().enumerate() {
         lists::put(starts, k, sum);
-        sum = sum + lists::at(counts, k, 0);
-        k += 1;
+        sum = sum + *count;
     }
 }
 
@@ -59,11 +57,9 @@ pub fn put_boxes(v: &[f64], counts: &[u32], boxes: &mut [f64])
     ensures { boxes.new ≡ sets boxes.old 0 (set_boxes (outlines_of v.now counts.now)) }
 {
     let mut at = 0;
-    let mut k = 0;
-    while k < counts.len() {
-        let end = at + 2 * (lists::at(counts, k, 0) as usize);
+    for (k, count) in counts.iter().enumerate() {
+        let end = at + 2 * (*count as usize);
         put_box(v, at, end, boxes, k);
         at = end;
-        k += 1;
     }
 }

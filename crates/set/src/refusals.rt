@@ -8,8 +8,8 @@ ghost use Rattle.set.specs.Tests.{lists_tested, set_tested, set_query_tested};
 ghost use Rattle.set.specs.OnePass.{first_failed, least_failed, test_at, rank_of};
 
 use crate::outlines::outline_from;
-use accept::refusals::{number_of, point_in_field, refusing, sign_tested, test_of, values_tested};
-use accept::{Refusal, Test};
+use accept::Refusal;
+use accept::refusals::{point_in_field, refuse_when, sign_tested, test_of, values_tested};
 use boundary::Point;
 use index::refusals::short_index;
 
@@ -18,14 +18,12 @@ fn adds_up(counts: &[u32], n: usize) -> bool
     ensures { result ≡ eqb (start_of counts.now (length counts.now)) n }
 {
     let mut left = n;
-    let mut k = 0;
-    while k < counts.len() {
-        let c = lists::at(counts, k, 0) as usize;
+    for count in counts {
+        let c = *count as usize;
         if left < c {
             return false;
         }
         left = left - c;
-        k += 1;
     }
     left == 0
 }
@@ -36,10 +34,8 @@ fn any_off(counts: &[u32], few: bool) -> bool
     ensures { result ≡ any (λ n. cond few (ltb n 3) (ltb 4096 n)) counts.now }
 {
     let mut found = false;
-    let mut k = 0;
-    while k < counts.len() {
-        found = found | is_off(few, lists::at(counts, k, 0));
-        k += 1;
+    for count in counts {
+        found = found | is_off(few, *count);
     }
     found
 }
@@ -51,12 +47,12 @@ fn is_off(few: bool, n: u32) -> bool
 }
 
 // The number of what the tests say of an outline, 10 where it passes.
-fn rank_of(t: Test) -> u32
+fn rank_of(t: Result<(), Refusal>) -> u32
     ensures { result ≡ rank_of t }
 {
     match t {
-        Test::Passed => 10,
-        Test::Failed(r) => number_of(r),
+        Ok(()) => 10,
+        Err(r) => u32::from(r),
     }
 }
 
@@ -81,50 +77,45 @@ fn least_failed(v: &[f64], counts: &[u32]) -> u32
 {
     let mut least = 10;
     let mut at = 0;
-    let mut k = 0;
-    while k < counts.len() {
-        let end = at + 2 * (lists::at(counts, k, 0) as usize);
+    for count in counts {
+        let end = at + 2 * (*count as usize);
         least = lesser(least, rank_in(v, at, end));
         at = end;
-        k += 1;
     }
     least
 }
 
-fn test_at(n: u32) -> Test
+fn test_at(n: u32) -> Result<(), Refusal>
     ensures { result ≡ test_at n }
 {
     match n {
-        5 => Test::Failed(Refusal::NotFinite),
-        6 => Test::Failed(Refusal::OutsideField),
-        7 => Test::Failed(Refusal::EqualNeighbours),
-        8 => Test::Failed(Refusal::ZeroArea),
-        9 => Test::Failed(Refusal::NegativeArea),
-        _ => Test::Passed,
+        5 => Err(Refusal::NotFinite),
+        6 => Err(Refusal::OutsideField),
+        7 => Err(Refusal::EqualNeighbours),
+        8 => Err(Refusal::ZeroArea),
+        9 => Err(Refusal::NegativeArea),
+        _ => Ok(()),
     }
 }
 
 // Tests 1 to 4.
-fn lists_tested(v: &[f64], counts: &[u32]) -> Test
+fn lists_tested(v: &[f64], counts: &[u32]) -> Result<(), Refusal>
     ensures { result ≡ lists_tested v.now counts.now }
 {
     let n = v.len() / 2;
-    let t = refusing(Test::Passed, Refusal::OddCount, v.len() % 2 == 1);
-    let t = refusing(t, Refusal::BadCounts, !adds_up(counts, n));
-    let t = refusing(t, Refusal::TooFew, any_off(counts, true));
+    refuse_when(v.len() % 2 == 1, Refusal::OddCount)?;
+    refuse_when(!adds_up(counts, n), Refusal::BadCounts)?;
+    refuse_when(any_off(counts, true), Refusal::TooFew)?;
     let large = (1024 < counts.len()) | (65536 < n);
-    refusing(t, Refusal::TooMany, any_off(counts, false) | large)
+    refuse_when(any_off(counts, false) | large, Refusal::TooMany)
 }
 
 // The tests of a set, 1 to 9.
-pub fn set_tested(v: &[f64], counts: &[u32]) -> Test
+pub fn set_tested(v: &[f64], counts: &[u32]) -> Result<(), Refusal>
     ensures { result ≡ set_tested v.now counts.now }
 {
-    let t = lists_tested(v, counts);
-    match t {
-        Test::Passed => test_at(least_failed(v, counts)),
-        Test::Failed(r) => Test::Failed(r),
-    }
+    lists_tested(v, counts)?;
+    test_at(least_failed(v, counts))
 }
 
 // The tests of a query, 13 the last.
@@ -135,14 +126,11 @@ pub fn query_tested(
     corners: &[f64],
     links: &[u32],
     items: &[u32],
-) -> Test
+) -> Result<(), Refusal>
     ensures { result ≡ set_query_tested v.now counts.now p (buffer corners.now links.now items.now) }
 {
-    let within = point_in_field(p);
-    let t = refusing(set_tested(v, counts), Refusal::BadPoint, !within);
-    refusing(
-        t,
-        Refusal::ShortBuffer,
-        short_index(corners.len(), links.len(), items.len()),
-    )
+    set_tested(v, counts)?;
+    refuse_when(!point_in_field(p), Refusal::BadPoint)?;
+    let short = short_index(corners.len(), links.len(), items.len());
+    refuse_when(short, Refusal::ShortBuffer)
 }

@@ -1,22 +1,23 @@
--- Signed numbers of four bytes: how large they are, as numbers of 64 bits, and where they stand. Assumes nothing.
+-- Signed numbers of four bytes: how large they are, as numbers of 32 and 64 bits, and where they stand. Assumes nothing.
 use mathlib.Core.Path.{◌≡◌, refl, sym, ap, ◌∙◌}
-use mathlib.Core.Bool.{Bool, true, false, not, ◌&&◌, ◌||◌, or-false, and-true, true≢false}
+use mathlib.Core.Bool.{Bool, true, false, ◌||◌, cond, or-false}
 use mathlib.Core.List.{List, [], ◌∷◌}
-use Prim.Native.Nat.{ℕ, zero, suc, ◌+◌, ◌-◌, ◌*◌, ◌%◌, ◌<◌, ◌≤◌}
+use Prim.Native.Nat.{ℕ, zero, suc, ◌+◌, ◌*◌, ◌<◌, ◌≤◌}
 use native.Mathlib.Omega.{arith}
 use borrow.Author.Tests.{lt-ltb, le-ltb, ltb-true, ltb-false}
-use lib.Dec.{eqb, ltb}
+use lib.Dec.{ltb}
 use lib.IntN.{ℤ, pos, negsuc, ◌-ℤ◌, nat_abs}
-use mir.Syntax.{w64}
+use mir.Syntax.{w32, w64}
 use mir.Val.{SFits, to_z, of_z}
 use mir.ValLaws.{to_z-of_z}
 use lib.ListN.{length, take, drop, get_or, length-drop}
 use lib.Seq.{get_or-drop}
 use lib.Signed.{lt_z}
+use Rattle.std.proofs.Math.Facts.{sfits_to_z}
 use Rattle.lists.specs.Lists.{run}
 use Rattle.lists.proofs.RunLaws.{run_later, run_same}
 use Rattle.stream.specs.Bytes.{signed_quad, steps_in, step_at}
-use Rattle.stream.specs.Records.{far_step, SameStep, same_bytes, other_unit}
+use Rattle.stream.specs.Records.{far_step, SameStep}
 
 -- ---- as numbers of 64 bits
 small_fits : (z : ℤ) → nat_abs z ≤ 4294967296 → SFits w64 z
@@ -27,65 +28,30 @@ small_fits (negsuc n) h = record { sfits = omega (arith, h) }
 pub small_same : (z : ℤ) → nat_abs z ≤ 4294967296 → to_z w64 (of_z w64 z) ≡ z
 small_same z h = to_z-of_z w64 z (small_fits z h)
 
-wide_is : (n : ℕ) → n < 4294967296 → to_z w64 n ≡ pos n
-wide_is n h = rw (lt-ltb n 9223372036854775808 (omega arith))
-
--- ---- n with the reach added, and taken away again
-abbrev shifted : ℕ → ℤ
-shifted m = pos m -ℤ pos 1048576
-
-below_reach : (m : ℕ) → m < 1048576 → shifted m ≡ negsuc (1048576 - suc m)
-below_reach m h = rw (lt-ltb m 1048576 h)
-
-from_reach : (m : ℕ) → 1048576 ≤ m → shifted m ≡ pos (m - 1048576)
-from_reach m h = rw (le-ltb m 1048576 h)
-
-high_is : (n : ℕ) → 2147483648 ≤ n → n < 4294967296 → signed_quad n ≡ negsuc (4294967296 - suc n)
-unfolding signed_quad
-high_is n h l = rw (le-ltb n 2147483648 h, lt-ltb n 4294967296 l)
-
+-- ---- as numbers of 32 bits
 same_as : {z r : ℤ} → r ≡ z → nat_abs z ≤ 4294967296 → SameStep z r
 same_as e h = record { far = ap far_step e; near = λ f. e; small = rw e h }
 
--- below 2 ^ 31 the number itself
-low_step : (n : ℕ) → n < 2147483648 → SameStep (signed_quad n) (shifted ((n + 1048576) % 4294967296))
-low_step n h =
-    let m : (n + 1048576) % 4294967296 ≡ n + 1048576 = omega arith in
-    let k : n + 1048576 - 1048576 ≡ n = omega arith in
-    let z : signed_quad n ≡ pos n = unfold signed_quad in rw (lt-ltb n 2147483648 h) in
-    same_as (rw (m, from_reach (n + 1048576) (omega arith), k, z)) (rw z (omega arith))
+quad_is : (n : ℕ) → n < 4294967296 → to_z w32 n ≡ signed_quad n
+unfolding signed_quad
+quad_is n l = rw (lt-ltb n 4294967296 l)
 
--- from there on n - 2 ^ 32 within the reach, and beyond it n, which is beyond it too
-high_step : (n : ℕ) → 2147483648 ≤ n → n < 4294967296 → SameStep (signed_quad n) (shifted ((n + 1048576) % 4294967296))
-high_step n h l = go (ltb (n + 1048576) 4294967296) refl
+quad_small : (n : ℕ) → n < 4294967296 → nat_abs (signed_quad n) ≤ 4294967296
+unfolding signed_quad
+quad_small n l = go (ltb n 2147483648) refl
   where
-    go : (b : Bool) → ltb (n + 1048576) 4294967296 ≡ b → SameStep (signed_quad n) (shifted ((n + 1048576) % 4294967296))
-    go false e =
-        let q = ltb-false (n + 1048576) 4294967296 e in
-        let m : (n + 1048576) % 4294967296 ≡ n + 1048576 - 4294967296 = omega arith in
-        let k : 1048576 - suc (n + 1048576 - 4294967296) ≡ 4294967296 - suc n = omega arith in
-        same_as (rw (m, below_reach (n + 1048576 - 4294967296) (omega arith), k) (sym (high_is n h l))) (rw (high_is n h l) (omega arith))
-    go true e =
-        let q = ltb-true (n + 1048576) 4294967296 e in
-        let m : (n + 1048576) % 4294967296 ≡ n + 1048576 = omega arith in
-        let k : n + 1048576 - 1048576 ≡ n = omega arith in
-        let r : shifted ((n + 1048576) % 4294967296) ≡ pos n = rw (m, from_reach (n + 1048576) (omega arith), k) in
-        let f : far_step (signed_quad n) ≡ true = rw (high_is n h l) (lt-ltb 1048576 (suc (4294967296 - suc n)) (omega arith)) in
-        record { far = rw r (lt-ltb 1048576 n (omega arith) ∙ sym f); near = λ g. absurd (true≢false (sym f ∙ g)); small = rw r (omega arith) }
+    go : (b : Bool) → ltb n 2147483648 ≡ b → nat_abs (cond b (pos n) (pos n -ℤ pos 4294967296)) ≤ 4294967296
+    go true e = omega (arith, l)
+    go false e = rw (lt-ltb n 4294967296 l) (omega (arith, l))
 
-pub step_stands : (n : ℕ) → n < 4294967296 → SameStep (signed_quad n) (shifted ((n + 1048576) % 4294967296))
-step_stands n l = go (ltb n 2147483648) refl
-  where
-    go : (b : Bool) → ltb n 2147483648 ≡ b → SameStep (signed_quad n) (shifted ((n + 1048576) % 4294967296))
-    go true e = low_step n (ltb-true n 2147483648 e)
-    go false e = high_step n (ltb-false n 2147483648 e) l
-
-pub shifted_fits : (n : ℕ) → n < 4294967296 → SFits w64 (to_z w64 ((n + 1048576) % 4294967296) -ℤ pos 1048576)
-shifted_fits n l = rw (wide_is ((n + 1048576) % 4294967296) (omega arith)) (small_fits (shifted ((n + 1048576) % 4294967296)) (step_stands n l).small)
-
--- as the machine has it
-pub shifted_is : (n : ℕ) → n < 4294967296 → to_z w64 (of_z w64 (to_z w64 ((n + 1048576) % 4294967296) -ℤ pos 1048576)) ≡ shifted ((n + 1048576) % 4294967296)
-shifted_is n l = to_z-of_z w64 (to_z w64 ((n + 1048576) % 4294967296) -ℤ pos 1048576) (shifted_fits n l) ∙ ap (λ z. z -ℤ pos 1048576) (wide_is ((n + 1048576) % 4294967296) (omega arith))
+-- the bits n, read as a number z of 32 bits that is handed over twice
+pub step_stands : (n : ℕ) (z r : ℤ) → n < 4294967296 → z ≡ to_z w32 n → r ≡ to_z w32 (of_z w32 z)
+    → SameStep (signed_quad n) (to_z w64 (of_z w64 r))
+step_stands n z r l e f =
+    let t : z ≡ signed_quad n = e ∙ quad_is n l in
+    let u : r ≡ signed_quad n = f ∙ ap (λ x. to_z w32 (of_z w32 x)) e ∙ to_z-of_z w32 (to_z w32 n) (sfits_to_z (record { fits = l })) ∙ quad_is n l in
+    let m = quad_small n l in
+    same_as (small_same r (rw u m) ∙ u) m
 
 -- ---- where they stand
 byte_place : (s : List ℕ) (at i j : ℕ) → j ≡ at + i → get_or (drop at s) i 0 ≡ get_or s j 0
@@ -133,34 +99,3 @@ far_is (negsuc n) = go (ltb 1048575 n) refl
     go : (b : Bool) → ltb 1048575 n ≡ b → ltb 1048575 n ≡ ltb 1048576 (suc n)
     go true e = e ∙ sym (lt-ltb 1048576 (suc n) (let l = ltb-true 1048575 n e in omega arith))
     go false e = e ∙ sym (le-ltb 1048576 (suc n) (let l = ltb-false 1048575 n e in omega arith))
-
--- ---- the unit, byte by byte
-abbrev unit_bytes : (ℕ → ℕ) → Bool
-unit_bytes b = eqb (b 0) 0x3E && (eqb (b 1) 0x40 && (eqb (b 2) 0 && (eqb (b 3) 0 && (eqb (b 4) 0 && (eqb (b 5) 0 && (eqb (b 6) 0 && eqb (b 7) 0))))))
-
-unit_bytes_lem : (x : List ℕ) → 8 ≤ length x → not (unit_bytes (λ i. get_or x i 0)) ≡ other_unit x
-unfolding other_unit same_bytes
-unit_bytes_lem (a ∷ b ∷ c ∷ d ∷ e ∷ f ∷ g ∷ h ∷ x) l = rw (and-true (eqb h 0))
-unit_bytes_lem [] l = absurd (omega (arith, l))
-unit_bytes_lem (a ∷ []) l = absurd (omega (arith, l))
-unit_bytes_lem (a ∷ b ∷ []) l = absurd (omega (arith, l))
-unit_bytes_lem (a ∷ b ∷ c ∷ []) l = absurd (omega (arith, l))
-unit_bytes_lem (a ∷ b ∷ c ∷ d ∷ []) l = absurd (omega (arith, l))
-unit_bytes_lem (a ∷ b ∷ c ∷ d ∷ e ∷ []) l = absurd (omega (arith, l))
-unit_bytes_lem (a ∷ b ∷ c ∷ d ∷ e ∷ f ∷ []) l = absurd (omega (arith, l))
-unit_bytes_lem (a ∷ b ∷ c ∷ d ∷ e ∷ f ∷ g ∷ []) l = absurd (omega (arith, l))
-
-pub unit_place : (s : List ℕ) (at : ℕ) → at + 8 ≤ length s
-    → not (eqb (get_or s at 0) 0x3E && (eqb (get_or s (at + 1) 0) 0x40 && (eqb (get_or s (at + 2) 0) 0 && (eqb (get_or s (at + 3) 0) 0 && (eqb (get_or s (at + 4) 0) 0 && (eqb (get_or s (at + 5) 0) 0 && (eqb (get_or s (at + 6) 0) 0 && eqb (get_or s (at + 7) 0) 0))))))) ≡ other_unit (drop at s)
-unit_place s at h =
-    let l = length-drop at s in
-    rw (
-      ← byte_place s at 0 at (omega arith),
-      ← byte_place s at 1 (at + 1) refl,
-      ← byte_place s at 2 (at + 2) refl,
-      ← byte_place s at 3 (at + 3) refl,
-      ← byte_place s at 4 (at + 4) refl,
-      ← byte_place s at 5 (at + 5) refl,
-      ← byte_place s at 6 (at + 6) refl,
-      ← byte_place s at 7 (at + 7) refl,
-    ) (unit_bytes_lem (drop at s) (omega arith))

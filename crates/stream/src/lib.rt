@@ -5,8 +5,37 @@ ghost use Rattle.std.specs.Prelude.{◌≡◌, ◌+◌, ◌*◌, ◌<◌, ◌≤
 ghost use Rattle.stream.specs.Bytes.{pair_at, step_at, steps_in};
 ghost use Rattle.stream.specs.Records.{asked_for, asked_after, at_end, astray, misfit, other_unit, far_step, any_far, SameStep};
 
-// The record that is asked for next.
-#[derive(Clone, Copy)]
+// The records' types. They stay numbers: the clauses of asked_after and misfits hold of every number that may
+// stand in a stream, so an enum would have a variant for the rest and be turned back for each of them.
+const HEADER: usize = 0x0002;
+
+const BGNLIB: usize = 0x0102;
+
+const LIBNAME: usize = 0x0206;
+
+const UNITS: usize = 0x0305;
+
+const ENDLIB: usize = 0x0400;
+
+const BGNSTR: usize = 0x0502;
+
+const STRNAME: usize = 0x0606;
+
+const ENDSTR: usize = 0x0700;
+
+const BOUNDARY: usize = 0x0800;
+
+const LAYER: usize = 0x0D02;
+
+const DATATYPE: usize = 0x0E02;
+
+const XY: usize = 0x1003;
+
+const ENDEL: usize = 0x1100;
+
+// The record that is asked for next. Nothing and Astray are states of the order like the others: the
+// definitions asked_after, at_end and astray speak of them so.
+#[derive(Clone, Copy, PartialEq, Eq)]
 pub enum Awaited {
     Header,
     Bgnlib,
@@ -24,41 +53,22 @@ pub enum Awaited {
     Astray,
 }
 
-fn wide(b: u8) -> usize
-    ensures { result ≡ b }
-{
-    b as usize
-}
-
-// A byte of the list.
-fn byte_at(s: &[u8], at: usize) -> usize
-    requires { at < length s.now }
-    ensures { (result ≡ get_or s.now at 0) × (result < 256) }
-{
-    wide(s[at])
-}
-
 // The number that two bytes write, the high one first.
 pub fn pair_at(s: &[u8], at: usize) -> usize
     requires { at + 2 ≤ length s.now }
     ensures { (result ≡ pair_at s.now at) × (result < 65536) }
 {
-    let high = byte_at(s, at);
-    let low = byte_at(s, at + 1);
-    high * 256 + low
+    usize::from(u16::from_be_bytes([s[at], s[at + 1]]))
 }
 
-// The signed number k of those that four bytes each write from a place on, unless it is beyond the reach; then
-// another that is.
+// The signed number k of those that four bytes each write from a place on. The clause lets a number beyond the
+// reach be another that is.
 pub fn step_at(s: &[u8], from: usize, k: usize) -> i64
     requires { from + 4 * k + 4 ≤ length s.now }
     ensures { SameStep (step_at s.now from k) result }
 {
     let at = from + 4 * k;
-    let high = byte_at(s, at) * 256 + byte_at(s, at + 1);
-    let low = byte_at(s, at + 2) * 256 + byte_at(s, at + 3);
-    let n = (high * 65536 + low + 1048576) % 4294967296;
-    (n as i64) - 1048576
+    i64::from(i32::from_be_bytes([s[at], s[at + 1], s[at + 2], s[at + 3]]))
 }
 
 // Whether a coordinate is beyond ±1,048,576 steps.
@@ -75,10 +85,8 @@ pub fn any_far(s: &[u8], from: usize, n: usize) -> bool
     ensures { result ≡ any_far (steps_in (take (4 * n) (drop from s.now))) }
 {
     let mut found = false;
-    let mut k = 0;
-    while k < n {
+    for k in 0..n {
         found = found | is_far(step_at(s, from, k));
-        k += 1;
     }
     found
 }
@@ -88,9 +96,7 @@ pub fn other_unit(s: &[u8], at: usize) -> bool
     requires { at + 8 ≤ length s.now }
     ensures { result ≡ other_unit (drop at s.now) }
 {
-    let end = (s[at + 5] == 0) & ((s[at + 6] == 0) & (s[at + 7] == 0));
-    let rest = (s[at + 2] == 0) & ((s[at + 3] == 0) & ((s[at + 4] == 0) & end));
-    !((s[at] == 0x3E) & ((s[at + 1] == 0x40) & rest))
+    s[at..at + 8] != [0x3E, 0x40, 0, 0, 0, 0, 0, 0]
 }
 
 // What is asked for after a type, where just one is in order.
@@ -106,26 +112,25 @@ pub fn asked_after(asked: Awaited, t: usize) -> Awaited
     ensures { result ≡ asked_after asked t }
 {
     match asked {
-        Awaited::Header => asked_for(t, 0x0002, Awaited::Bgnlib),
-        Awaited::Bgnlib => asked_for(t, 0x0102, Awaited::Libname),
-        Awaited::Libname => asked_for(t, 0x0206, Awaited::Units),
-        Awaited::Units => asked_for(t, 0x0305, Awaited::Bgnstr),
-        Awaited::Bgnstr => asked_for(t, 0x0502, Awaited::Strname),
-        Awaited::Strname => asked_for(t, 0x0606, Awaited::Element),
+        Awaited::Header => asked_for(t, HEADER, Awaited::Bgnlib),
+        Awaited::Bgnlib => asked_for(t, BGNLIB, Awaited::Libname),
+        Awaited::Libname => asked_for(t, LIBNAME, Awaited::Units),
+        Awaited::Units => asked_for(t, UNITS, Awaited::Bgnstr),
+        Awaited::Bgnstr => asked_for(t, BGNSTR, Awaited::Strname),
+        Awaited::Strname => asked_for(t, STRNAME, Awaited::Element),
         Awaited::Element => {
-            if t == 0x0800 {
+            if t == BOUNDARY {
                 Awaited::Layer
             } else {
-                asked_for(t, 0x0700, Awaited::Endlib)
+                asked_for(t, ENDSTR, Awaited::Endlib)
             }
         }
-        Awaited::Layer => asked_for(t, 0x0D02, Awaited::Datatype),
-        Awaited::Datatype => asked_for(t, 0x0E02, Awaited::Xy),
-        Awaited::Xy => asked_for(t, 0x1003, Awaited::Endel),
-        Awaited::Endel => asked_for(t, 0x1100, Awaited::Element),
-        Awaited::Endlib => asked_for(t, 0x0400, Awaited::Nothing),
-        Awaited::Nothing => Awaited::Astray,
-        Awaited::Astray => Awaited::Astray,
+        Awaited::Layer => asked_for(t, LAYER, Awaited::Datatype),
+        Awaited::Datatype => asked_for(t, DATATYPE, Awaited::Xy),
+        Awaited::Xy => asked_for(t, XY, Awaited::Endel),
+        Awaited::Endel => asked_for(t, ENDEL, Awaited::Element),
+        Awaited::Endlib => asked_for(t, ENDLIB, Awaited::Nothing),
+        Awaited::Nothing | Awaited::Astray => Awaited::Astray,
     }
 }
 
@@ -134,11 +139,7 @@ pub fn asked_after(asked: Awaited, t: usize) -> Awaited
 pub fn is_at_end(asked: Awaited) -> bool
     ensures { result ≡ at_end asked }
 {
-    if let Awaited::Nothing = asked {
-        true
-    } else {
-        false
-    }
+    matches!(asked, Awaited::Nothing)
 }
 
 // Whether another type came than was asked for.
@@ -146,11 +147,7 @@ pub fn is_at_end(asked: Awaited) -> bool
 pub fn is_astray(asked: Awaited) -> bool
     ensures { result ≡ astray asked }
 {
-    if let Awaited::Astray = asked {
-        true
-    } else {
-        false
-    }
+    matches!(asked, Awaited::Astray)
 }
 
 // Whether a type has another number of data bytes than it may have.
@@ -158,5 +155,5 @@ pub fn misfits(t: usize, n: usize) -> bool
     requires { n < 65536 }
     ensures { result ≡ misfit t n }
 {
-    ((t == 0x0305) & (n + 4 != 20)) | ((t == 0x1003) & (n % 8 != 0))
+    ((t == UNITS) & (n + 4 != 20)) | ((t == XY) & (n % 8 != 0))
 }

@@ -1,4 +1,5 @@
 -- Making's tests and what making writes, by place; numbers on the grid pass tests 5 and 6. Assumes nothing.
+use Rattle.std.proofs.Common.{Ok, Err}
 use mathlib.Core.Path.{◌≡◌, refl, sym, ap, ap₂, ◌∙◌}
 use mathlib.Core.Bool.{Bool, true, false, not, cond, ◌&&◌}
 use mathlib.Core.List.{List, ◌++◌, reverse}
@@ -20,11 +21,8 @@ use Rattle.boundary.specs.Outline.{count, vertex_at, same_point, after, edge_at,
 use Rattle.boundary.proofs.OutlineLaws.{length_vertices}
 use Rattle.accept.specs.declared.Refusal.{Refusal}
 use Rattle.accept.specs.declared.Refusal.TheVariants.{TooFew, TooMany, BeyondReach}
-use Rattle.accept.specs.declared.Test.{Test}
-use Rattle.accept.specs.declared.Test.TheVariants.{Passed, Failed}
-use Rattle.accept.specs.declared.Verdict.TheVariants.{Area, TurnedAway}
 use Rattle.accept.specs.Area.{area_of}
-use Rattle.accept.specs.Refusals.{◌refusing◌when◌, given, not_finite, outside_field, equal_neighbours, negative_area, shape_tested}
+use Rattle.accept.specs.Refusals.{Test, all_passed, ◌refusing◌when◌, given, not_finite, outside_field, equal_neighbours, negative_area, shape_tested}
 use Rattle.accept.specs.Verdicts.{edges_verdict}
 use Rattle.accept.proofs.TestLaws.{refusing_passed, both_passed}
 use Rattle.geometry.specs.Making.{closed, kept, turned, coordinates_of, made_of}
@@ -35,7 +33,6 @@ use Rattle.grid.proofs.GridLaws.{grid_finite}
 use Rattle.exact.proofs.Tests.{grid_in_field}
 use Rattle.stream.specs.Records.{any_far}
 use Rattle.xy.specs.declared.Makings.{Makings}
-use Rattle.xy.specs.declared.Made.TheVariants.{Whole, Unmade}
 use Rattle.xy.specs.Outlines.{numbers_of, xy_tested, numbers_from, vertex_from}
 use Rattle.xy.proofs.NumberLaws.{length_from, count_from, vertex_from_lem, take_from}
 
@@ -44,16 +41,16 @@ pub even_from : (s : List ℕ) (from n : ℕ) → from + 8 * n ≤ length s → 
 even_from s from n room = let e = length_from s from n room in ne_eqb _ 1 (λ (o : length (numbers_from s from n) % 2 ≡ 1). omega arith)
 
 module _ (v : List Float) where
-  pub too_few : eqb (length v % 2) 1 ≡ false → ltb (count v) 3 ≡ true → TurnedAway TooFew ≡ given (shape_tested v) (Area (area_of (edges v))) TurnedAway
+  pub too_few : eqb (length v % 2) 1 ≡ false → ltb (count v) 3 ≡ true → Err TooFew ≡ given (shape_tested v) (Ok (area_of (edges v))) Err
   unfolding shape_tested given
   too_few e l = rw (e, l)
 
-  pub too_many : eqb (length v % 2) 1 ≡ false → ltb (count v) 3 ≡ false → ltb 4096 (count v) ≡ true → TurnedAway TooMany ≡ given (shape_tested v) (Area (area_of (edges v))) TurnedAway
+  pub too_many : eqb (length v % 2) 1 ≡ false → ltb (count v) 3 ≡ false → ltb 4096 (count v) ≡ true → Err TooMany ≡ given (shape_tested v) (Ok (area_of (edges v))) Err
   unfolding shape_tested given
   too_many e l h = rw (e, l, h)
 
   -- numbers on the grid pass 5 and 6, so that 7 and 8 decide
-  pub grid_tested : eqb (length v % 2) 1 ≡ false → ltb (count v) 3 ≡ false → ltb 4096 (count v) ≡ false → OutlineOn v → edges_verdict (equal_neighbours v) (area_of (edges v)) ≡ given (shape_tested v) (Area (area_of (edges v))) TurnedAway
+  pub grid_tested : eqb (length v % 2) 1 ≡ false → ltb (count v) 3 ≡ false → ltb 4096 (count v) ≡ false → OutlineOn v → edges_verdict (equal_neighbours v) (area_of (edges v)) ≡ given (shape_tested v) (Ok (area_of (edges v))) Err
   unfolding shape_tested edges_verdict given
   grid_tested e l h g =
       let finite : not_finite v ≡ false = any_each (λ x z k. ap not (grid_finite k)) g.on ∙ any_never g.steps in
@@ -62,7 +59,7 @@ module _ (v : List Float) where
 
 -- those that follow the record: where a step is beyond the reach, and where none is
 module _ (zs : List ℤ) where
-  pub tested_far : any_far zs ≡ true → xy_tested zs ≡ Failed BeyondReach
+  pub tested_far : any_far zs ≡ true → xy_tested zs ≡ Err BeyondReach
   unfolding xy_tested given ◌refusing◌when◌
   tested_far e = rw e
 
@@ -70,18 +67,18 @@ module _ (zs : List ℤ) where
   unfolding xy_tested given ◌refusing◌when◌
   tested_rest e = rw e
 
-  tested_both : xy_tested zs ≡ Passed → ((Passed refusing BeyondReach when any_far zs) ≡ Passed) × (shape_tested (kept (numbers_of zs)) ≡ Passed)
+  tested_both : xy_tested zs ≡ all_passed → ((all_passed refusing BeyondReach when any_far zs) ≡ all_passed) × (shape_tested (kept (numbers_of zs)) ≡ all_passed)
   unfolding xy_tested
-  tested_both e = both_passed (Passed refusing BeyondReach when any_far zs) (shape_tested (kept (numbers_of zs))) e
+  tested_both e = both_passed (all_passed refusing BeyondReach when any_far zs) (shape_tested (kept (numbers_of zs))) e
 
   -- they are passed where no step is beyond the reach and making's tests are passed, and only there
-  pub tested_near : xy_tested zs ≡ Passed → any_far zs ≡ false
-  tested_near e = (refusing_passed Passed BeyondReach (any_far zs) (tested_both e).0).1
+  pub tested_near : xy_tested zs ≡ all_passed → any_far zs ≡ false
+  tested_near e = (refusing_passed all_passed BeyondReach (any_far zs) (tested_both e).0).1
 
-  pub tested_makes : xy_tested zs ≡ Passed → shape_tested (kept (numbers_of zs)) ≡ Passed
+  pub tested_makes : xy_tested zs ≡ all_passed → shape_tested (kept (numbers_of zs)) ≡ all_passed
   tested_makes e = (tested_both e).1
 
-  pub near_makes_tested : any_far zs ≡ false → shape_tested (kept (numbers_of zs)) ≡ Passed → xy_tested zs ≡ Passed
+  pub near_makes_tested : any_far zs ≡ false → shape_tested (kept (numbers_of zs)) ≡ all_passed → xy_tested zs ≡ all_passed
   near_makes_tested e h = tested_rest e ∙ h
 
 -- ---- what is kept
@@ -165,12 +162,12 @@ made_length v = length_numbers _ ∙ ap (λ (k : ℕ). 2 * k) (as_many (negative
     as_many false = length_vertices (kept v)
 
 -- ---- what the tests hand over
-pub whole_passed : (t : Test) (k m : Makings) → given t (Whole k) Unmade ≡ Whole m → (t ≡ Passed) × (k ≡ m)
+pub whole_passed : (t : Test) (k m : Makings) → given t (Ok k) Err ≡ Ok m → (t ≡ all_passed) × (k ≡ m)
 unfolding given
-whole_passed Passed k m e = (refl, cc)
-whole_passed (Failed r) k m e = absurd (let z : ◌≡◌ {A = ℕ} 0 1 = cc in omega arith)
+whole_passed (Ok _) k m e = (refl, cc)
+whole_passed (Err r) k m e = absurd (let z : ◌≡◌ {A = ℕ} 0 1 = cc in omega arith)
 
-pub unmade_failed : (t : Test) (k : Makings) (r : Refusal) → given t (Whole k) Unmade ≡ Unmade r → t ≡ Failed r
+pub unmade_failed : (t : Test) (k : Makings) (r : Refusal) → given t (Ok k) Err ≡ Err r → t ≡ Err r
 unfolding given
-unmade_failed Passed k r e = absurd (let z : ◌≡◌ {A = ℕ} 0 1 = cc in omega arith)
-unmade_failed (Failed q) k r e = let h : q ≡ r = cc in rw h
+unmade_failed (Ok _) k r e = absurd (let z : ◌≡◌ {A = ℕ} 0 1 = cc in omega arith)
+unmade_failed (Err q) k r e = let h : q ≡ r = cc in rw h

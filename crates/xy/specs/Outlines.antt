@@ -1,13 +1,11 @@
 -- An outline as an XY record holds it: coordinates in steps, which making takes as doubles in µm. Definitions only.
-use Rattle.std.specs.Prelude.{◌≡◌, false, List, map, ℕ, ◌+◌, ◌*◌, ◌≤◌, ℤ, pos, length, take, drop, Float}
+use Rattle.std.specs.Prelude.{◌≡◌, false, List, map, ℕ, ◌+◌, ◌*◌, ◌≤◌, ℤ, pos, length, take, drop, Err, Float}
 use Rattle.std.specs.Float.{fin, binary64}
 use Rattle.std.specs.Float.Ieee.{div, of_int}
 use Rattle.boundary.specs.declared.Point.{Point}
 use Rattle.boundary.specs.Outline.{count}
 use Rattle.accept.specs.declared.Refusal.TheVariants.{BeyondReach}
-use Rattle.accept.specs.declared.Test.{Test}
-use Rattle.accept.specs.declared.Test.TheVariants.{Passed, Failed}
-use Rattle.accept.specs.Refusals.{◌refusing◌when◌, given, negative_area, shape_tested}
+use Rattle.accept.specs.Refusals.{Test, all_passed, ◌refusing◌when◌, given, negative_area, shape_tested}
 use Rattle.geometry.specs.Making.{kept}
 use Rattle.stream.specs.Bytes.{steps_in, step_at}
 use Rattle.stream.specs.Records.{any_far}
@@ -28,7 +26,7 @@ made_count zs = count (kept (numbers_of zs))
 -- the tests that follow the record: 18, then the outline's own, as making has them
 unfoldable pub xy_tested : List ℤ → Test
 unfolding given ◌refusing◌when◌ shape_tested kept
-xy_tested zs = given (Passed refusing BeyondReach when any_far zs) (shape_tested (kept (numbers_of zs))) Failed
+xy_tested zs = given (all_passed refusing BeyondReach when any_far zs) (shape_tested (kept (numbers_of zs))) Err
 
 -- what making finds of it: how many vertices it is made with, and whether its area is negative, so that it is reversed
 abbrev pub makings_of : List ℤ → Makings

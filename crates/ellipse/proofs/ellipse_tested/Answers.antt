@@ -1,10 +1,18 @@
 -- `ellipse::ellipse_tested` meets its contract. Assumes nothing.
+use Rattle.std.proofs.Common.{arith}
+use Rattle.std.proofs.lemmas.Grind.{common_steps}
+use Rattle.accept.specs.Refusals.{◌refusing◌when◌}
 use Rattle.ellipse.specs.Ellipse.{ellipse_tested}
 use Rattle.ellipse.proofs.ellipse_tested.Goals as goal
 
 pub returns : goal.returns
-unfolding ellipse_tested
-returns c =
-    let e = c in
-    rw (c.refusing.ensures, c.ellipse_fits.ensures, c.refusing-centre.ensures, c.point_in_field-2.ensures)
-    (rw (e.refusing-point.ensures, e.point_in_field.ensures))
+unfolding ellipse_tested ◌refusing◌when◌
+returns c = grind (arith, common_steps)
+
+pub returns-in_err-refuse_when : goal.returns-in_err-refuse_when
+unfolding ellipse_tested ◌refusing◌when◌
+returns-in_err-refuse_when c = grind (arith, common_steps)
+
+pub returns-in_err-refuse_when-2 : goal.returns-in_err-refuse_when-2
+unfolding ellipse_tested ◌refusing◌when◌
+returns-in_err-refuse_when-2 c = grind (arith, common_steps)

@@ -1,4 +1,5 @@
 -- `gdsii::outline_read` meets its contract. Assumes nothing.
+use Rattle.std.proofs.Common.{Ok, Err}
 use mathlib.Core.Path.{◌≡◌, sym, ap, ◌∙◌}
 use Prim.Native.Nat.{ℕ}
 use native.Mathlib.Omega.{arith}
@@ -8,10 +9,9 @@ use Rattle.xy.specs.declared.Makings.{Makings}
 use Rattle.xy.proofs.MakingLaws.{tested_makes, whole_passed, unmade_failed}
 use borrow.Author.Rules.{rules}
 use Rattle.gdsii.specs.declared.Size.{Size}
-use Rattle.gdsii.specs.declared.Judged.TheVariants.{Refused, Found}
 use Rattle.gdsii.proofs.outline_read.Goals as goal
 
-refused-not : (z : Size) (r : Refusal) → Refused r ≡ Found z → ⊥
+refused-not : (z : Size) (r : Refusal) → Err r ≡ Ok z → ⊥
 refused-not z r e = let n : ◌≡◌ {A = ℕ} 0 1 = cc in omega arith
 
 pub grown-requires : goal.grown-requires

@@ -1,4 +1,6 @@
 -- `gdsii::record_read` meets its contract. Assumes nothing.
+use Rattle.std.proofs.Common.{Ok, Err}
+use Rattle.accept.specs.Refusals.{all_passed}
 use mathlib.Core.Path.{◌≡◌, sym, ◌∙◌}
 use mathlib.Core.Bool.{true, false}
 use mathlib.Core.List.{List}
@@ -9,13 +11,11 @@ use lib.Dec.{eqb}
 use lib.IntN.{ℤ}
 use lib.ListN.{drop, set}
 use Rattle.accept.specs.declared.Refusal.{Refusal}
-use Rattle.accept.specs.declared.Test.TheVariants.{Passed, Failed}
 use Rattle.accept.proofs.TestLaws.{given_passed, given_failed}
 use Rattle.stream.specs.declared.Awaited.{Awaited}
 use Rattle.stream.specs.Format.{XY}
 use Rattle.xy.specs.Outlines.{steps_from}
 use Rattle.gdsii.specs.declared.Size.{Size}
-use Rattle.gdsii.specs.declared.Judged.TheVariants.{Refused, Found}
 use Rattle.gdsii.specs.Reading.{record_tested}
 use Rattle.gdsii.specs.Work.{AtRecord, outline_read, record_read, sign_of, with_record_sign}
 use Rattle.gdsii.proofs.PlaceLaws.{passed_whole, outline_room, outline_place}
@@ -27,19 +27,19 @@ module _ (s : List ℕ) (at t n : ℕ) (then : Awaited) (A : AtRecord s at t n) 
   abbrev zs : List ℤ
   zs = steps_from s (at + 4) ((n - 4) / 8)
 
-  read-outline : record_tested then (drop at s) ≡ Passed → eqb t XY ≡ true → record_read then so (drop at s) ≡ outline_read so zs
+  read-outline : record_tested then (drop at s) ≡ all_passed → eqb t XY ≡ true → record_read then so (drop at s) ≡ outline_read so zs
   unfolding record_read
   read-outline e u = given_passed e _ _ ∙ rw (← A.type, u, outline_place s at t n then A e u)
 
-  read-other : record_tested then (drop at s) ≡ Passed → eqb t XY ≡ false → record_read then so (drop at s) ≡ Found so
+  read-other : record_tested then (drop at s) ≡ all_passed → eqb t XY ≡ false → record_read then so (drop at s) ≡ Ok so
   unfolding record_read
   read-other e u = given_passed e _ _ ∙ rw (← A.type, u)
 
-  read-refused : {r : Refusal} → record_tested then (drop at s) ≡ Failed r → record_read then so (drop at s) ≡ Refused r
+  read-refused : {r : Refusal} → record_tested then (drop at s) ≡ Err r → record_read then so (drop at s) ≡ Err r
   unfolding record_read
   read-refused e = given_failed e _ _
 
-  sign-outline : record_tested then (drop at s) ≡ Passed → eqb t XY ≡ true → (S : List ℕ) → with_record_sign so (drop at s) S ≡ set S so.outlines (sign_of zs)
+  sign-outline : record_tested then (drop at s) ≡ all_passed → eqb t XY ≡ true → (S : List ℕ) → with_record_sign so (drop at s) S ≡ set S so.outlines (sign_of zs)
   unfolding with_record_sign
   sign-outline e u S = rw (← A.type, u, outline_place s at t n then A e u)
 
@@ -47,7 +47,7 @@ module _ (s : List ℕ) (at t n : ℕ) (then : Awaited) (A : AtRecord s at t n) 
   unfolding with_record_sign
   sign-other u S = rw (← A.type, u)
 
-refused-not : (z : Size) (r : Refusal) → Refused r ≡ Found z → ⊥
+refused-not : (z : Size) (r : Refusal) → Err r ≡ Ok z → ⊥
 refused-not z r e = let n : ◌≡◌ {A = ℕ} 0 1 = cc in omega arith
 
 pub overflow_sub-size : goal.overflow_sub-size

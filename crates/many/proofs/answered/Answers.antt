@@ -1,8 +1,8 @@
 -- `many::answered` meets its contract. Assumes nothing.
+use Rattle.std.proofs.Common.{Ok}
 use mathlib.Core.Path.{sym, ap, ◌∙◌}
 use borrow.Author.Tests.{eq-eqb, ne_eqb}
 use Rattle.lists.specs.Lists.{at_front}
-use Rattle.accept.specs.declared.Answer.TheVariants.{Count}
 use Rattle.index.specs.Buffer.{IndexBuffer}
 use Rattle.set.proofs.SetLaws.{outlines_length}
 use Rattle.many.specs.Answers.{ManyLent, answer_lists, written_of, with_answers, many_worked}
@@ -15,7 +15,7 @@ returns-then-counts-eq0 c =
     let i = c in
     let a = i.args in
     let n = outlines_length a.v.now a.counts.now in
-    rw (eq-eqb _ 0 (n ∙ i.if-counts-eq0.true)) (ap (λ (B : IndexBuffer). record { answer = Count 0; lent = record { buffer = B; lists = answer_lists a.near.now a.distances.now } }) c.clear.ensures)
+    rw (eq-eqb _ 0 (n ∙ i.if-counts-eq0.true)) (ap (λ (B : IndexBuffer). record { answer = Ok 0; lent = record { buffer = B; lists = answer_lists a.near.now a.distances.now } }) c.clear.ensures)
 
 pub returns : goal.returns
 unfolding many_worked many_left written_of
@@ -23,4 +23,4 @@ returns c =
     let i = c in
     let a = i.args in
     let n = outlines_length a.v.now a.counts.now in
-    rw (ne_eqb _ 0 (λ z. i.if-counts-eq0.false (sym n ∙ z))) (ap (λ (L : ManyLent). record { answer = Count 1; lent = L }) c.answer.ensures)
+    rw (ne_eqb _ 0 (λ z. i.if-counts-eq0.false (sym n ∙ z))) (ap (λ (L : ManyLent). record { answer = Ok 1; lent = L }) c.answer.ensures)

@@ -1,6 +1,6 @@
 -- `search::look` meets its contract: the best so far and the items that are left give the best of all. Assumes nothing.
 use mathlib.Core.Path.{◌≡◌}
-use Prim.Native.Nat.{◌+◌, ◌-◌, ◌≤◌}
+use Prim.Native.Nat.{◌+◌, ◌-◌}
 use Rattle.lists.specs.Lists.{run, fold}
 use Rattle.nodes.specs.Layout.{item_at}
 use Rattle.set.specs.Set.{outlines_of}
@@ -10,9 +10,5 @@ use Rattle.search.proofs.look.Given as goal
 
 abbrev pub invariant-loop-i : goal.invariant-loop-i
 invariant-loop-i l =
-    (l.i ≤ l.count)
-    × (fold (λ b k. improved b k (magnitude_at (outlines_of l.v l.counts) l.p k)) l.kept.best (run (item_at l.items) (l.first + l.i) (l.count - l.i)) ≡ best_of (magnitude_at (outlines_of l.v l.counts) l.p) l.initial.kept.best (run (item_at l.items) l.first l.count))
+    (fold (λ b k. improved b k (magnitude_at (outlines_of l.v l.counts) l.p k)) l.kept.best (run (item_at l.items) (l.first + l.i) (l.count - l.i)) ≡ best_of (magnitude_at (outlines_of l.v l.counts) l.p) l.initial.kept.best (run (item_at l.items) l.first l.count))
     × Clear l.p l.kept
-
-abbrev pub decreases-loop-i : goal.decreases-loop-i
-decreases-loop-i l = l.count - l.i

@@ -1,5 +1,5 @@
 -- `search::search_in` meets its contract: every outline is below a node that waits, or the best is at most it. Assumes nothing.
-use mathlib.Core.Path.{◌≡◌}
+use mathlib.Core.Path.{◌≡◌, refl}
 use Prim.Native.Nat.{ℕ, ◌≤◌}
 use native.Mathlib.Omega.{arith}
 use lib.ListN.{length}
@@ -19,7 +19,7 @@ none_of : {n : ℕ} → n ≤ 0 → n ≡ 0
 none_of h = omega arith
 
 pub push-requires : goal.push-requires
-push-requires c = ((search rules, search rules), (heaped_none _, rw c.gap.ensures (squares_number _ _)))
+push-requires c = (rw c.clear.ensures (omega arith), rw c.clear.ensures (heaped_none _), rw c.entry_for.ensures (squares_number _ _))
 
 pub overflow_cast-counts : goal.overflow_cast-counts
 overflow_cast-counts c =
@@ -28,210 +28,126 @@ overflow_cast-counts c =
     let l = outlines_length a.v.now a.counts.now in
     search rules
 
-pub loop-n-init : goal.loop-n-init
-loop-n-init c =
-    let g = c in
-    let s = g in
-    let a = s.args in
+pub loop-e-init : goal.loop-e-init
+loop-e-init c =
+    let a = c.args in
     let os = outlines_of a.v.now a.counts.now in
     let B = buffer a.corners.now a.links.now a.items.now in
-    let A = s.requires.0 in
-    let P = owned_point s.well_formed.1.1.1.1.0 A.point in
-    let h = set_search_first os A.fitting A.held a.p P B s.requires.2 _ _ (rw g.gap.ensures at c.push.ensures) in
-    (rw (c.none_kept-kept.ensures, ← outlines_length a.v.now a.counts.now) h, search rules, search rules)
+    let A = c.requires.0 in
+    let P = owned_point c.well_formed.1.1.1.1.0 A.point in
+    let h = set_search_first os A.fitting A.held a.p P B c.requires.2 _ _ (rw (c.entry_for.ensures, c.clear.ensures) at c.push.ensures.pushed) in
+    rw (c.none_kept-kept.ensures, ← outlines_length a.v.now a.counts.now, c.push.ensures.len, c.clear.ensures) h
 
-pub pop-e-requires : goal.pop-e-requires
-pop-e-requires c =
-    let s = c in
-    let a = s.args in
+pub pop-requires : goal.pop-requires
+pop-requires c =
+    let a = c.args in
     let os = outlines_of a.v.now a.counts.now in
     let B = buffer a.corners.now a.links.now a.items.now in
     let D = magnitude_at os a.p in
     let n = length os in
-    let S = c.loop-n.invariant.0 in
+    let S = c.loop-e.invariant in
     let h = searching_few B most a.p D n S in
-    (search rules, (search rules, search rules), S.heaped)
-
-pub shape_of-nodes-then-kept-e : goal.shape_of-nodes-then-kept-e
-shape_of-nodes-then-kept-e c =
-    let m = c.requires.4.nodes in
-    let e = c.loop-n.invariant.1 in
-    search rules
-
-pub shape_of-gaps-then-kept-e : goal.shape_of-gaps-then-kept-e
-shape_of-gaps-then-kept-e c =
-    let m = c.requires.4.gaps in
-    let e = c.loop-n.invariant.2 in
-    search rules
+    (omega arith, S.heaped)
 
 pub returns-then-kept-e : goal.returns-then-kept-e
 returns-then-kept-e c =
-    let l = c in
-    let s = l in
-    let a = s.args in
+    let a = c.args in
     let os = outlines_of a.v.now a.counts.now in
     let B = buffer a.corners.now a.links.now a.items.now in
     let D = magnitude_at os a.p in
     let n = length os in
-    let A = s.requires.0 in
-    let P = owned_point s.well_formed.1.1.1.1.0 A.point in
-    let S = l.loop-n.invariant.0 in
+    let A = c.requires.0 in
+    let P = owned_point c.well_formed.1.1.1.1.0 A.point in
+    let S = c.loop-e.invariant in
     let k = outlines_length a.v.now a.counts.now in
-    let m = s.requires.3 in
-    set_search_end os A.fitting A.held a.p P B s.requires.2 (omega arith) _ S.among
-    (upto_above B most a.p D n S c.pop-e.ensures c.if-kept-e.true)
+    let m = c.requires.3 in
+    set_search_end os A.fitting A.held a.p P B c.requires.2 (omega arith) _ S.among (upto_above B most a.p D n S c.in-Some.ensures.popped c.if-kept-e.true)
 
 pub look-kept-requires : goal.look-kept-requires
 look-kept-requires c =
-    let z = c in
-    let x = z in
-    let l = x in
-    let s = l in
-    let a = s.args in
+    let a = c.args in
     let os = outlines_of a.v.now a.counts.now in
     let B = buffer a.corners.now a.links.now a.items.now in
     let D = magnitude_at os a.p in
     let n = length os in
-    let A = s.requires.0 in
-    let P = owned_point s.well_formed.1.1.1.1.0 A.point in
-    let S = l.loop-n.invariant.0 in
-    let H = x.pop-e.ensures in (
-      A,
-      s.requires.1,
-      rw (z.at-first.ensures, c.at-count.ensures)
-          (looked_within B most a.p D n S H (magnitude_numbers os A.fitting A.held a.p P) (rw c.at-count.ensures at c.if-count-gt0.true)),
-      S.clear,
-    )
+    let A = c.requires.0 in
+    let P = owned_point c.well_formed.1.1.1.1.0 A.point in
+    let S = c.loop-e.invariant in
+    let H = c.in-Some.ensures.popped in
+    (A, c.requires.1, rw (c.at-first.ensures, c.at-count.ensures) (looked_within B most a.p D n S H (magnitude_numbers os A.fitting A.held a.p P) (rw c.at-count.ensures at c.if-count-gt0.true)), S.clear)
 
-pub loop-n-smaller-then-count-gt0 : goal.loop-n-smaller-then-count-gt0
-loop-n-smaller-then-count-gt0 c =
-    let l = c in
-    let s = l in
-    let a = s.args in
+pub loop-e-smaller-then-count-gt0 : goal.loop-e-smaller-then-count-gt0
+loop-e-smaller-then-count-gt0 c =
+    let a = c.args in
     let os = outlines_of a.v.now a.counts.now in
     let B = buffer a.corners.now a.links.now a.items.now in
     let D = magnitude_at os a.p in
     let n = length os in
-    popped_less B most a.p D n l.loop-n.invariant.0 c.pop-e.ensures
+    rw c.in-Some.ensures.len (popped_less B most a.p D n c.loop-e.invariant c.in-Some.ensures.popped)
 
-pub loop-n-preserved-then-count-gt0 : goal.loop-n-preserved-then-count-gt0
-loop-n-preserved-then-count-gt0 c =
-    let y = c in
-    let z = y in
-    let x = z in
-    let l = x in
-    let s = l in
-    let a = s.args in
+pub loop-e-preserved-then-count-gt0 : goal.loop-e-preserved-then-count-gt0
+loop-e-preserved-then-count-gt0 c =
+    let a = c.args in
     let os = outlines_of a.v.now a.counts.now in
     let B = buffer a.corners.now a.links.now a.items.now in
     let D = magnitude_at os a.p in
     let n = length os in
-    let A = s.requires.0 in
-    let P = owned_point s.well_formed.1.1.1.1.0 A.point in
-    let S = l.loop-n.invariant.0 in
-    let H = x.pop-e.ensures in
-    let f = rw y.at-count.ensures at c.if-count-gt0.true in
+    let A = c.requires.0 in
+    let P = owned_point c.well_formed.1.1.1.1.0 A.point in
+    let S = c.loop-e.invariant in
+    let H = c.in-Some.ensures.popped in
+    let f = rw c.at-count.ensures at c.if-count-gt0.true in
     let e = c.look-kept.ensures in
-    let ln = l.loop-n.invariant.1 in
-    let lg = l.loop-n.invariant.2 in
-    let pn = c.nodes-in-loop-n-1.given in
-    let pg = c.gaps-in-loop-n-1.given in
-    let r = rw (z.at-first.ensures, y.at-count.ensures) at e.0 in
-    (searching_leaf B most a.p D n S H (magnitude_numbers os A.fitting A.held a.p P) f r e.1, omega arith, omega arith)
+    let r = rw (c.at-first.ensures, c.at-count.ensures) at e.0 in
+    rw c.in-Some.ensures.len (searching_leaf B most a.p D n S H (magnitude_numbers os A.fitting A.held a.p P) f r e.1)
 
 pub wait_both-requires : goal.wait_both-requires
 wait_both-requires c =
-    let y = c in
-    let z = y in
-    let g = z in
-    let k = g in
-    let x = k in
-    let l = x in
-    let s = l in
-    let a = s.args in
+    let a = c.args in
     let os = outlines_of a.v.now a.counts.now in
     let B = buffer a.corners.now a.links.now a.items.now in
     let D = magnitude_at os a.p in
     let n = length os in
-    let S = l.loop-n.invariant.0 in
-    let H = x.pop-e.ensures in
-    let e = rw y.at-count.ensures at (none_of c.if-count-gt0.false) in
+    let S = c.loop-e.invariant in
+    let H = c.in-Some.ensures.popped in
+    let L = c.in-Some.ensures.len in
+    let e = rw c.at-count.ensures at (none_of c.if-count-gt0.false) in
     let m = children_small B most a.p D n S H e in
-    let f = z.at-first.ensures in
+    let f = c.at-first.ensures in
     let h = searching_few B most a.p D n S in
-    let ln = l.loop-n.invariant.1 in
-    let lg = l.loop-n.invariant.2 in
-    let pn = k.nodes-in-loop-n-1.given in
-    let pg = g.gaps-in-loop-n-1.given in
-    ((omega arith, omega arith), omega arith, (H.heaped, (squares_number _ _, squares_number _ _)))
+    (omega arith, omega arith, (rw L H.heaped, (squares_number _ _, squares_number _ _)))
 
-pub overflow_add-n : goal.overflow_add-n
-overflow_add-n c =
-    let l = c in
-    let s = l in
-    let a = s.args in
+pub loop-e-smaller : goal.loop-e-smaller
+loop-e-smaller c =
+    let a = c.args in
     let os = outlines_of a.v.now a.counts.now in
     let B = buffer a.corners.now a.links.now a.items.now in
     let D = magnitude_at os a.p in
     let n = length os in
-    let h = searching_few B most a.p D n l.loop-n.invariant.0 in
-    record { fits = omega arith }
+    let e = rw c.at-count.ensures at (none_of c.if-count-gt0.false) in
+    rw (c.wait_both.ensures.len, c.in-Some.ensures.len) (opened_less B most a.p D n c.loop-e.invariant c.in-Some.ensures.popped e (rw (c.at-first.ensures, c.in-Some.ensures.len) at c.wait_both.ensures.opened))
 
-pub loop-n-smaller : goal.loop-n-smaller
-loop-n-smaller c =
-    let i = c in
-    let y = i in
-    let z = y in
-    let x = z in
-    let l = x in
-    let s = l in
-    let a = s.args in
+pub loop-e-preserved : goal.loop-e-preserved
+loop-e-preserved c =
+    let a = c.args in
     let os = outlines_of a.v.now a.counts.now in
     let B = buffer a.corners.now a.links.now a.items.now in
     let D = magnitude_at os a.p in
     let n = length os in
-    let e = rw y.at-count.ensures at (none_of i.if-count-gt0.false) in
-    opened_less B most a.p D n l.loop-n.invariant.0 x.pop-e.ensures e (rw z.at-first.ensures at c.wait_both.ensures)
-
-pub loop-n-preserved : goal.loop-n-preserved
-loop-n-preserved c =
-    let j = c in
-    let w = j in
-    let i = w in
-    let y = i in
-    let z = y in
-    let g = z in
-    let k = g in
-    let x = k in
-    let l = x in
-    let s = l in
-    let a = s.args in
-    let os = outlines_of a.v.now a.counts.now in
-    let B = buffer a.corners.now a.links.now a.items.now in
-    let D = magnitude_at os a.p in
-    let n = length os in
-    let ln = l.loop-n.invariant.1 in
-    let lg = l.loop-n.invariant.2 in
-    let pn = k.nodes-in-loop-n-1.given in
-    let pg = g.gaps-in-loop-n-1.given in
-    let qn = j.nodes-else-count-gt0-1.given in
-    let qg = c.gaps-else-count-gt0-1.given in
-    let e = rw y.at-count.ensures at (none_of i.if-count-gt0.false) in
-    let o = rw z.at-first.ensures at w.wait_both.ensures in
-    (searching_inner B most a.p D n l.loop-n.invariant.0 x.pop-e.ensures e o, omega arith, omega arith)
+    let e = rw c.at-count.ensures at (none_of c.if-count-gt0.false) in
+    rw (c.wait_both.ensures.len, c.in-Some.ensures.len) (searching_inner B most a.p D n c.loop-e.invariant c.in-Some.ensures.popped e (rw (c.at-first.ensures, c.in-Some.ensures.len) at c.wait_both.ensures.opened))
 
 pub returns : goal.returns
 returns c =
-    let s = c in
-    let a = s.args in
+    let a = c.args in
     let os = outlines_of a.v.now a.counts.now in
     let B = buffer a.corners.now a.links.now a.items.now in
     let D = magnitude_at os a.p in
     let n = length os in
-    let A = s.requires.0 in
-    let P = owned_point s.well_formed.1.1.1.1.0 A.point in
-    let S = c.loop-n.invariant.0 in
+    let A = c.requires.0 in
+    let P = owned_point c.well_formed.1.1.1.1.0 A.point in
+    let S = c.loop-e.invariant in
     let k = outlines_length a.v.now a.counts.now in
-    let m = s.requires.3 in
-    set_search_end os A.fitting A.held a.p P B s.requires.2 (omega arith) _ S.among
-    (upto_none B most a.p D n S c.loop-n-test.false)
+    let m = c.requires.3 in
+    let z = c.in_default.ensures.none.0 refl in
+    set_search_end os A.fitting A.held a.p P B c.requires.2 (omega arith) _ S.among (upto_none B most a.p D n S (omega arith))

@@ -9,11 +9,10 @@ use Rattle.search.proofs.SearchLaws.{size_of, Searching}
 use Rattle.search.proofs.SetSearch.{most}
 use Rattle.search.proofs.search_in.Given as goal
 
-abbrev pub invariant-loop-n : goal.invariant-loop-n
-invariant-loop-n l =
-    Searching (buffer l.corners l.links l.items) most l.p (magnitude_at (outlines_of l.v l.counts) l.p) (length (outlines_of l.v l.counts)) (entry_at l.nodes l.gaps) l.n l.kept
-    × (length l.nodes ≡ 512) × (length l.gaps ≡ 512)
+abbrev pub invariant-loop-e : goal.invariant-loop-e
+invariant-loop-e l =
+    Searching (buffer l.corners l.links l.items) most l.p (magnitude_at (outlines_of l.v l.counts) l.p) (length (outlines_of l.v l.counts)) (entry_at l.waiting.entries) l.waiting.len l.kept
 
-abbrev pub decreases-loop-n : goal.decreases-loop-n
-decreases-loop-n l =
-    total_weight (size_of (buffer l.corners l.links l.items) most l.p (magnitude_at (outlines_of l.v l.counts) l.p) (length (outlines_of l.v l.counts))) (entry_at l.nodes l.gaps) l.n
+abbrev pub decreases-loop-e : goal.decreases-loop-e
+decreases-loop-e l =
+    total_weight (size_of (buffer l.corners l.links l.items) most l.p (magnitude_at (outlines_of l.v l.counts) l.p) (length (outlines_of l.v l.counts))) (entry_at l.waiting.entries) l.waiting.len

@@ -2,7 +2,6 @@
 use mathlib.Core.Path.{sym, ap, ◌∙◌}
 use mathlib.Core.Bool.{Bool, ◌||◌}
 use native.Mathlib.Nat.{sub-zero}
-use borrow.Author.Rules.{rules}
 use lib.IntN.{ℤ}
 use Rattle.lists.specs.Lists.{any}
 use Rattle.lists.proofs.FoldLaws.{fold_run_next, fold_run_end}
@@ -15,14 +14,13 @@ found b z = b || far_step z
 
 pub loop-k-init : goal.loop-k-init
 unfolding any
-loop-k-init c = (search rules, rw sub-zero)
+loop-k-init c = rw sub-zero
 
 pub loop-k-preserved : goal.loop-k-preserved
 loop-k-preserved c =
-    let i = c.loop-k.invariant in
-    (search rules, rw (c.is_far-found.ensures, small_same _ c.step_at.ensures.small, c.step_at.ensures.far) (sym (fold_run_next found _ _ _ _ c.loop-k-test.true) ∙ i.1))
+    rw (c.is_far-found.ensures, small_same _ c.step_at.ensures.small, c.step_at.ensures.far) (sym (fold_run_next found _ _ _ _ c.loop-k-test.true) ∙ c.loop-k.invariant)
 
 pub returns : goal.returns
 returns c =
     let a = c.args in
-    sym (fold_run_end found _ _ _ _ c.loop-k-test.false) ∙ c.loop-k.invariant.1 ∙ ap any_far (sym (steps_placed a.s.now a.from a.n c.requires))
+    sym (fold_run_end found _ _ _ _ c.loop-k-test.false) ∙ c.loop-k.invariant ∙ ap any_far (sym (steps_placed a.s.now a.from a.n c.requires))

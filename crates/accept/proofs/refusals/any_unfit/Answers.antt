@@ -12,16 +12,16 @@ use Rattle.accept.proofs.refusals.any_unfit.Goals as goal
 abbrev step : Bool → Bool → Float → Bool
 step only b x = b || not (cond only (finite x) (is_in_field x))
 
-pub loop-i-init : goal.loop-i-init
+pub loop-x-init : goal.loop-x-init
 unfolding any
-loop-i-init c = (search rules, refl)
+loop-x-init c = refl
 
-pub loop-i-preserved : goal.loop-i-preserved
-loop-i-preserved c =
+pub loop-x-preserved : goal.loop-x-preserved
+loop-x-preserved c =
     let a = c.args in
-    (search rules, rw c.number_fits.ensures (sym (fold_drop_next (step a.only) nan c.loop-i.found a.v.now _ c.loop-i-test.true) ∙ c.loop-i.invariant.1))
+    rw c.number_fits.ensures (sym (fold_drop_next (step a.only) nan c.loop-x.found a.v.now _ c.loop-x-test.true) ∙ c.loop-x.invariant)
 
 pub returns : goal.returns
 returns c =
     let a = c.args in
-    sym (fold_drop_end (step a.only) _ a.v.now _ c.loop-i.invariant.0 c.loop-i-test.false) ∙ c.loop-i.invariant.1
+    sym (fold_drop_end (step a.only) _ a.v.now _ (search rules) c.loop-x-test.false) ∙ c.loop-x.invariant

@@ -1,6 +1,7 @@
 -- `accept::refusals::edges_tested` meets its contract: what was summed so far and the edges that are left give both answers. Assumes nothing.
 use mathlib.Core.Path.{◌≡◌, sym, ap, ◌∙◌}
 use mathlib.Core.Bool.{Bool, ◌||◌}
+use Prim.Native.Nat.{◌+◌, ◌≤◌}
 use native.Mathlib.Nat.{sub-zero}
 use native.Mathlib.Omega.{arith}
 use borrow.Author.Rules.{rules}
@@ -38,7 +39,7 @@ unfolding edges_verdict
 returns-then-same_point c =
     let q = c in
     let inv = q.loop-i.invariant in
-    let e = next_edge q.args.v.now q.loop-i.i q.loop-i.a c.vertex_at-b.result inv.0 inv.1 c.loop-i-test.true c.vertex_at-b.ensures in
+    let e = next_edge q.args.v.now q.loop-i.i q.loop-i.a c.vertex_at-b.result inv.0 inv.1 (omega arith) c.vertex_at-b.ensures in
     let s = sym (ap joins e) ∙ sym c.same_point.ensures ∙ c.if-same_point.true in
     rw (← inv.2, fold_run_next found _ _ _ _ inv.0, s, fold_found joins)
 
@@ -47,7 +48,7 @@ loop-i-preserved c =
     let d = c in
     let q = d in
     let inv = q.loop-i.invariant in
-    let e = next_edge q.args.v.now q.loop-i.i q.loop-i.a d.vertex_at-b.result inv.0 inv.1 d.loop-i-test.true d.vertex_at-b.ensures in
+    let e = next_edge q.args.v.now q.loop-i.i q.loop-i.a d.vertex_at-b.result inv.0 inv.1 (omega arith) d.vertex_at-b.ensures in
     let s = sym (ap joins e) ∙ sym c.same_point.ensures ∙ c.if-same_point.false in (
       search rules,
       d.vertex_at-b.ensures,
@@ -58,7 +59,7 @@ loop-i-preserved c =
 pub returns : goal.returns
 unfolding area_of
 returns c =
-    let l = c.loop-i-test.false in
+    let l : count c.args.v.now ≤ c.loop-i.i + 1 = omega arith in
     let q = c in
     let inv = q.loop-i.invariant in
     let e = last_edge q.args.v.now q.loop-i.i q.loop-i.a q.vertex_at-first.result inv.0 inv.1 l q.vertex_at-first.ensures in

@@ -25,6 +25,3 @@ invariant-loop-i l =
     × (l.a ≡ vertex_at l.v l.i)
     × (fold found false (run (edge_at l.v) l.i (count l.v - l.i)) ≡ any joins (edges l.v))
     × (fold summed l.sum (run (edge_at l.v) l.i (count l.v - l.i)) ≡ total shoelace_term (edges l.v))
-
-abbrev pub decreases-loop-i : goal.decreases-loop-i
-decreases-loop-i l = count l.v - l.i

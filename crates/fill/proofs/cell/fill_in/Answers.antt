@@ -2,7 +2,9 @@
 use mathlib.Core.Path.{refl}
 use Prim.Native.Nat.{◌*◌}
 use native.Mathlib.Omega.{arith}
+use lib.Ieee.{of_bits}
 use lib.ListN.{length}
+use lib.Ieee.{of_bits}
 use Rattle.number.specs.Exact.{zeroᶠ}
 use Rattle.lists.proofs.FrontLaws.{zeros_past}
 use Rattle.fill.specs.Answers.{half_of}
@@ -15,6 +17,7 @@ pub clear-requires : goal.clear-requires
 clear-requires c = rw c.fill_by-answer.ensures.1 (omega arith)
 
 pub returns : goal.returns
+unfolding of_bits
 returns c =
     let f = c.fill_by-answer.ensures in
     let w = c.args.w.now in

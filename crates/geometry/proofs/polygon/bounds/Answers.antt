@@ -1,12 +1,14 @@
 -- `geometry::polygon::bounds` meets its contract. Assumes nothing.
-use Rattle.accept.specs.Refusals.{given}
+use mathlib.Core.Path.{sym, ◌∙◌}
+use Rattle.accept.proofs.TestLaws.{given_passed, given_refused}
 use Rattle.geometry.specs.Answers.{bounds_answer}
 use Rattle.geometry.proofs.polygon.bounds.Goals as goal
 
-pub returns-in-Passed : goal.returns-in-Passed
-unfolding bounds_answer given
-returns-in-Passed c = rw (← c.outline_tested.ensures, c.in-Passed.is, c.box_of.ensures)
+pub returns : goal.returns
+unfolding bounds_answer
+returns c = rw (given_passed (sym c.outline_tested.ensures ∙ c.in_ok-outline_tested.was), c.box_of.ensures)
 
-pub returns-in-Failed : goal.returns-in-Failed
-unfolding bounds_answer given
-returns-in-Failed c = rw (← c.outline_tested.ensures, c.in-Failed.is)
+pub returns-in_err-outline_tested : goal.returns-in_err-outline_tested
+unfolding bounds_answer
+returns-in_err-outline_tested c =
+    given_refused (sym c.outline_tested.ensures ∙ c.in_err-outline_tested.was) c.from_residual.ensures.1 _

@@ -1,22 +1,16 @@
 -- `geometry::polygon::contains` meets its contract. Assumes nothing.
-use Rattle.accept.specs.Refusals.{given}
-use Rattle.geometry.specs.Answers.{outline_query_tested, contains_answer}
+use mathlib.Core.Path.{sym, ◌∙◌}
+use Rattle.lists.proofs.BitLaws.{one_or_zero}
+use Rattle.accept.proofs.TestLaws.{given_passed, given_refused}
+use Rattle.geometry.specs.Answers.{contains_answer}
 use Rattle.geometry.proofs.polygon.contains.Goals as goal
 
-pub returns-then-holds : goal.returns-then-holds
-unfolding contains_answer outline_query_tested given
-returns-then-holds c =
-    rw (← c.outline_tested-t.ensures, ← c.point_in_field-within.ensures, ← c.refusing.ensures)
-    (rw (c.in-Passed.is, ← c.holds.ensures, c.if-holds.true))
+pub returns : goal.returns
+unfolding contains_answer
+returns c =
+    rw (given_passed (sym c.query_tested.ensures ∙ c.in_ok-query_tested.was), c.from.ensures, c.holds.ensures, one_or_zero _)
 
-pub returns-else-holds : goal.returns-else-holds
-unfolding contains_answer outline_query_tested given
-returns-else-holds c =
-    rw (← c.outline_tested-t.ensures, ← c.point_in_field-within.ensures, ← c.refusing.ensures)
-    (rw (c.in-Passed.is, ← c.holds.ensures, c.if-holds.false))
-
-pub returns-in-Failed : goal.returns-in-Failed
-unfolding contains_answer outline_query_tested given
-returns-in-Failed c =
-    rw (← c.outline_tested-t.ensures, ← c.point_in_field-within.ensures, ← c.refusing.ensures)
-    (rw c.in-Failed.is)
+pub returns-in_err-query_tested : goal.returns-in_err-query_tested
+unfolding contains_answer
+returns-in_err-query_tested c =
+    given_refused (sym c.query_tested.ensures ∙ c.in_err-query_tested.was) c.from_residual.ensures.1 _

@@ -34,25 +34,24 @@ returns-then-n-eq0 c =
 
 pub loop-i-init : goal.loop-i-init
 unfolding contains_rust odd_many
-loop-i-init c = (search rules, search rules, refl, rw c.vertex_at.ensures, rw sub-zero)
+loop-i-init c = (search rules, refl, rw c.vertex_at.ensures, rw sub-zero)
 
 pub turned_odd-inside-requires : goal.turned_odd-inside-requires
 turned_odd-inside-requires c =
     let inv = c.loop-i.invariant in
     let l = c.loop-i-test.true in
-    (rw inv.2 (before-less _ _ l), l, inv.3, rw c.vertex_at-in-loop-i.ensures)
+    (rw inv.1 (before-less _ _ l), l, inv.2, rw c.vertex_at-in-loop-i.ensures)
 
 pub loop-i-preserved : goal.loop-i-preserved
 loop-i-preserved c =
     let inv = c.loop-i.invariant in
     let l = c.loop-i-test.true in
     let e = c.turned_odd-inside.ensures in (
-      search rules,
-      inv.1,
+      inv.0,
       before-next _ _,
       rw c.vertex_at-in-loop-i.ensures,
-      rw (e, inv.2) (sym (fold_run_next (step _) _ _ _ _ l) ∙ inv.4),
+      rw (e, inv.1) (sym (fold_run_next (step _) _ _ _ _ l) ∙ inv.3),
     )
 
 pub returns : goal.returns
-returns c = sym (fold_run_end (step _) _ _ _ _ c.loop-i-test.false) ∙ c.loop-i.invariant.4 ∙ sym (contains_rust_lem _ _)
+returns c = sym (fold_run_end (step _) _ _ _ _ c.loop-i-test.false) ∙ c.loop-i.invariant.3 ∙ sym (contains_rust_lem _ _)

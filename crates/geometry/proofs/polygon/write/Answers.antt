@@ -10,20 +10,17 @@ use Rattle.geometry.proofs.polygon.write.Goals as goal
 
 pub loop-i-init : goal.loop-i-init
 unfolding coordinates_of run
-loop-i-init c = (search rules, refl, search rules)
+loop-i-init c = refl
 
 pub bounds-out-i-in-loop-i : goal.bounds-out-i-in-loop-i
 bounds-out-i-in-loop-i c = simp length-set (search rules)
 
 pub loop-i-preserved : goal.loop-i-preserved
 loop-i-preserved c =
-    let a = c.args in (
-      search rules,
-      rw (c.vertex_at-p.ensures, c.source.ensures.0) (write_more (point_at a.v.now a.back) _ _ _ c.loop-i.invariant.1 (search rules)),
-      simp length-set (search rules),
-    )
+    let a = c.args in
+    rw (c.vertex_at-p.ensures, c.source.ensures.0) (write_more (point_at a.v.now a.back) _ _ _ c.loop-i.invariant (search rules))
 
 pub returns : goal.returns
 returns c =
-    let n = le_antisymm c.loop-i.invariant.0 c.loop-i-test.false in
-    rw (write_all, ← n) c.loop-i.invariant.1
+    let n = le_antisymm (search rules) c.loop-i-test.false in
+    rw (write_all, ← n) c.loop-i.invariant

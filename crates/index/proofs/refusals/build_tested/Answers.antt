@@ -1,5 +1,13 @@
 -- `index::refusals::build_tested` meets its contract. Assumes nothing.
+use Rattle.std.proofs.Common.{arith}
+use Rattle.std.proofs.lemmas.Grind.{common_steps}
+use Rattle.accept.specs.Refusals.{◌refusing◌when◌}
 use Rattle.index.proofs.refusals.build_tested.Goals as goal
 
 pub returns : goal.returns
-returns c = rw (c.refusing.ensures, c.short_index.ensures, c.boxes_tested.ensures)
+unfolding ◌refusing◌when◌
+returns c = grind (arith, common_steps)
+
+pub returns-in_err-boxes_tested : goal.returns-in_err-boxes_tested
+unfolding ◌refusing◌when◌
+returns-in_err-boxes_tested c = grind (arith, common_steps)

@@ -2,12 +2,11 @@
 use mathlib.Core.Path.{sym, ap, ◌∙◌}
 use native.Mathlib.Omega.{arith}
 use borrow.Author.Rules.{rules}
-use Rattle.search.specs.Sifts.{HeapLists}
 use Rattle.search.proofs.SiftLaws.{moving, sunk, least_place, sink_turn}
 use Rattle.search.proofs.heap.sink.Goals as goal
 
 pub loop-c-init : goal.loop-c-init
-loop-c-init c = (search rules, c.least_of-c.ensures, moving _ _ _, c.requires.1)
+loop-c-init c = (search rules, c.least_of-c.ensures, moving _ _, c.requires.1)
 
 pub exchange-requires : goal.exchange-requires
 exchange-requires c =
@@ -32,7 +31,7 @@ loop-c-preserved c =
     let L = c.loop-c in
     let E = c.exchange.ensures in
     let at = least_place L.invariant.3 (λ z. c.loop-c-test.true (L.invariant.1 ∙ z)) in
-    let step = sink_turn L.invariant.2 (omega arith) (omega arith) L.c L.invariant.1 c.loop-c-test.true L.invariant.3 (ap (λ (h : HeapLists). h.nodes) E) (ap (λ (h : HeapLists). h.gaps) E) in
+    let step = sink_turn L.invariant.2 (omega arith) L.c L.invariant.1 c.loop-c-test.true L.invariant.3 E in
     (omega arith, c.least_of-c-in-loop-c.ensures, step.0, step.1)
 
 pub returns : goal.returns

@@ -1,7 +1,6 @@
 -- `set::outlines::put_boxes` meets its contract: the boxes so far stand at the front. Assumes nothing.
 use mathlib.Core.Path.{refl, ap, ◌∙◌}
 use mathlib.Core.List.{List, flat_map}
-use Prim.Native.Nat.{ℕ, ◌+◌, ◌*◌}
 use native.Mathlib.Nat.{le_antisymm}
 use native.Mathlib.Omega.{arith}
 use lib.ListN.{length}
@@ -22,14 +21,13 @@ boxed o = box_numbers (bounds_of (vertices o))
 
 pub loop-k-init : goal.loop-k-init
 unfolding run flat_map start_of
-loop-k-init c = (search rules, search rules, refl)
+loop-k-init c = (search rules, refl)
 
 pub overflow_add-end : goal.overflow_add-end
 overflow_add-end c =
     let d = c in
     let a = d.args in
-    let e = c.at.ensures in
-    let i = c.loop-k.invariant.1 in
+    let i = c.loop-k.invariant.0 in
     let w = part_within a.v.now a.counts.now d.requires.1 c.loop-k.k c.loop-k-test.true in
     search rules
 
@@ -37,8 +35,7 @@ pub put_box-requires : goal.put_box-requires
 put_box-requires c =
     let d = c in
     let a = d.args in
-    let e = c.at.ensures in
-    let i = c.loop-k.invariant.1 in
+    let i = c.loop-k.invariant.0 in
     let s = d.requires.0 in
     let t = c.loop-k-test.true in
     let w = part_within a.v.now a.counts.now d.requires.1 c.loop-k.k t in
@@ -48,17 +45,15 @@ pub loop-k-preserved : goal.loop-k-preserved
 loop-k-preserved c =
     let d = c in
     let a = d.args in
-    let e = c.at.ensures in
-    let i = c.loop-k.invariant.1 in
+    let i = c.loop-k.invariant.0 in
     let n = start_next a.counts.now c.loop-k.k in
-    let same = part_is a.v.now a.counts.now c.loop-k.k _ _ i (ap (λ (m : ℕ). c.loop-k.at + 2 * m) e) in
-    (search rules, omega arith, flat_more boxed 4 (λ _. refl) _ _ _ (outline_at a.v.now a.counts.now) _ _ c.loop-k.invariant.2 same c.put_box.ensures)
+    let same = part_is a.v.now a.counts.now c.loop-k.k _ _ i refl in
+    (omega arith, flat_more boxed 4 (λ _. refl) _ _ _ (outline_at a.v.now a.counts.now) _ _ c.loop-k.invariant.1 same c.put_box.ensures)
 
 pub shape_of-boxes : goal.shape_of-boxes
-shape_of-boxes c = ap length c.loop-k.invariant.2 ∙ simp length-sets
+shape_of-boxes c = ap length c.loop-k.invariant.1 ∙ simp length-sets
 
 pub returns : goal.returns
 unfolding set_boxes outlines_of
 returns c =
-    let inv = c.loop-k.invariant in
-    rw (← le_antisymm inv.0 c.loop-k-test.false) inv.2
+    rw (← le_antisymm (search rules) c.loop-k-test.false) c.loop-k.invariant.1

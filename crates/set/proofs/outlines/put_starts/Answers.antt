@@ -13,13 +13,12 @@ use Rattle.set.proofs.outlines.put_starts.Goals as goal
 
 pub loop-k-init : goal.loop-k-init
 unfolding run start_of
-loop-k-init c = (search rules, refl, refl)
+loop-k-init c = (refl, refl)
 
 pub overflow_add-sum : goal.overflow_add-sum
 overflow_add-sum c =
     let d = c in
-    let e = c.at-sum.ensures in
-    let i = c.loop-k.invariant.1 in
+    let i = c.loop-k.invariant.0 in
     let w = start_within d.args.counts.now c.loop-k.k c.loop-k-test.true in
     let s = d.requires in
     search rules
@@ -27,15 +26,13 @@ overflow_add-sum c =
 pub loop-k-preserved : goal.loop-k-preserved
 loop-k-preserved c =
     let d = c in
-    let e = c.at-sum.ensures in
-    let i = c.loop-k.invariant.1 in
+    let i = c.loop-k.invariant.0 in
     let n = start_next d.args.counts.now c.loop-k.k in
-    (search rules, omega arith, sets_more _ _ _ (start_of d.args.counts.now) _ _ c.loop-k.invariant.2 i c.put.ensures)
+    (omega arith, sets_more _ _ _ (start_of d.args.counts.now) _ _ c.loop-k.invariant.1 i c.put.ensures)
 
 pub shape_of-starts : goal.shape_of-starts
-shape_of-starts c = ap length c.loop-k.invariant.2 ∙ simp length-sets
+shape_of-starts c = ap length c.loop-k.invariant.1 ∙ simp length-sets
 
 pub returns : goal.returns
 returns c =
-    let inv = c.loop-k.invariant in
-    rw (← le_antisymm inv.0 c.loop-k-test.false) inv.2
+    rw (← le_antisymm (search rules) c.loop-k-test.false) c.loop-k.invariant.1

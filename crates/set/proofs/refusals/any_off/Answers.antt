@@ -14,16 +14,16 @@ off few n = cond few (ltb n 3) (ltb 4096 n)
 abbrev step : Bool → Bool → ℕ → Bool
 step few b n = b || off few n
 
-pub loop-k-init : goal.loop-k-init
+pub loop-count-init : goal.loop-count-init
 unfolding any
-loop-k-init c = (search rules, refl)
+loop-count-init c = refl
 
-pub loop-k-preserved : goal.loop-k-preserved
-loop-k-preserved c =
+pub loop-count-preserved : goal.loop-count-preserved
+loop-count-preserved c =
     let a = c.args in
-    (search rules, rw (c.is_off-found.ensures, c.at.ensures) (sym (fold_drop_next (step a.few) 0 c.loop-k.found a.counts.now _ c.loop-k-test.true) ∙ c.loop-k.invariant.1))
+    rw c.is_off-found.ensures (sym (fold_drop_next (step a.few) 0 c.loop-count.found a.counts.now _ c.loop-count-test.true) ∙ c.loop-count.invariant)
 
 pub returns : goal.returns
 returns c =
     let a = c.args in
-    sym (fold_drop_end (step a.few) _ a.counts.now _ c.loop-k.invariant.0 c.loop-k-test.false) ∙ c.loop-k.invariant.1
+    sym (fold_drop_end (step a.few) _ a.counts.now _ (search rules) c.loop-count-test.false) ∙ c.loop-count.invariant

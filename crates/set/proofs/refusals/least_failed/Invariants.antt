@@ -1,7 +1,7 @@
 -- `set::refusals::least_failed` meets its contract: the least so far and the outlines that are left give the least of all. Assumes nothing.
 use mathlib.Core.Path.{◌≡◌}
 use mathlib.Core.List.{List}
-use Prim.Native.Nat.{ℕ, ◌-◌, ◌*◌, ◌≤◌, min}
+use Prim.Native.Nat.{ℕ, ◌-◌, ◌*◌, min}
 use lib.ListN.{length}
 use lib.Ieee.{Float}
 use Rattle.lists.specs.Lists.{run, fold}
@@ -12,9 +12,6 @@ use Rattle.set.proofs.refusals.least_failed.Given as goal
 abbrev step : ℕ → List Float → ℕ
 step n o = min n (first_failed o)
 
-abbrev pub invariant-loop-k : goal.invariant-loop-k
-invariant-loop-k l =
-    (l.k ≤ length l.counts) × (l.at ≡ 2 * start_of l.counts l.k) × (fold step l.least (run (outline_at l.v l.counts) l.k (length l.counts - l.k)) ≡ least_failed (outlines_of l.v l.counts))
-
-abbrev pub decreases-loop-k : goal.decreases-loop-k
-decreases-loop-k l = length l.counts - l.k
+abbrev pub invariant-loop-count : goal.invariant-loop-count
+invariant-loop-count l =
+    (l.at ≡ 2 * start_of l.counts l.count-index) × (fold step l.least (run (outline_at l.v l.counts) l.count-index (length l.counts - l.count-index)) ≡ least_failed (outlines_of l.v l.counts))

@@ -1,10 +1,22 @@
 -- `set::refusals::lists_tested` meets its contract. Assumes nothing.
+use Rattle.std.proofs.Common.{arith}
+use Rattle.std.proofs.lemmas.Grind.{common_steps}
+use Rattle.accept.specs.Refusals.{◌refusing◌when◌}
 use Rattle.set.specs.Tests.{lists_tested}
 use Rattle.set.proofs.refusals.lists_tested.Goals as goal
 
 pub returns : goal.returns
-unfolding lists_tested
-returns c =
-    let t2 = c in
-    let t1 = t2 in
-    rw (c.refusing.ensures, c.any_off-2.ensures, c.refusing-t-3.ensures, c.any_off.ensures, t2.refusing-t-2.ensures, t2.adds_up.ensures, t1.refusing-t.ensures)
+unfolding lists_tested ◌refusing◌when◌
+returns c = grind (arith, common_steps)
+
+pub returns-in_err-refuse_when : goal.returns-in_err-refuse_when
+unfolding lists_tested ◌refusing◌when◌
+returns-in_err-refuse_when c = grind (arith, common_steps)
+
+pub returns-in_err-refuse_when-2 : goal.returns-in_err-refuse_when-2
+unfolding lists_tested ◌refusing◌when◌
+returns-in_err-refuse_when-2 c = grind (arith, common_steps)
+
+pub returns-in_err-refuse_when-3 : goal.returns-in_err-refuse_when-3
+unfolding lists_tested ◌refusing◌when◌
+returns-in_err-refuse_when-3 c = grind (arith, common_steps)

@@ -1,10 +1,10 @@
 -- `viskunor::sets::vk_set_any_at` meets its contract. Assumes nothing.
+use Rattle.accept.specs.Refusals.{Answer}
 use mathlib.Core.Path.{ap}
-use Rattle.accept.specs.declared.Answer.{Answer}
 use Rattle.accept.specs.Answers.{Outcome, count_fields, in_fields}
 use Rattle.index.specs.Buffer.{IndexBuffer}
 use Rattle.viskunor.proofs.sets.vk_set_any_at.Goals as goal
 
 pub returns : goal.returns
 returns c =
-    rw c.count_fields-told.ensures (ap (λ (o : Outcome Answer IndexBuffer). in_fields count_fields o) c.any_at-answer.ensures)
+    rw c.count_fields-told.ensures (ap (λ (o : Outcome (Answer ℕ) IndexBuffer). in_fields count_fields o) c.any_at-answer.ensures)

@@ -1,6 +1,6 @@
 -- `viskunor::sets::vk_set_nearest` meets its contract. Assumes nothing.
+use Rattle.accept.specs.Refusals.{Answer}
 use mathlib.Core.Path.{ap}
-use Rattle.nearest.specs.declared.Nearest.{Nearest}
 use Rattle.accept.specs.Answers.{Outcome, in_fields}
 use Rattle.index.specs.Buffer.{IndexBuffer}
 use Rattle.nearest.specs.Nearest.{nearest_fields}

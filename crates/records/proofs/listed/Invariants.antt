@@ -1,8 +1,0 @@
--- `records::listed` meets its contract. Assumes nothing.
-use Rattle.std.proofs.Common.{◌≡◌, ◌++◌, drop}
-use Rattle.lists.specs.Lists.{run}
-use Rattle.records.specs.Records.{node_in}
-use Rattle.records.proofs.listed.Given as goal
-
-abbrev pub invariant-loop-i : goal.invariant-loop-i
-invariant-loop-i l = l.place-items ≡ run (node_in l.view.corners.now l.view.links.now) 0 l.i ++ drop l.i l.initial.place-items

@@ -1,0 +1,13 @@
+-- `search::heap::Waiting::push` meets its contract: the entry is put behind the others, and rises. Assumes nothing.
+use native.Mathlib.Omega.{arith}
+use Rattle.search.proofs.HeapLaws.{push_rising, pushed}
+use Rattle.search.proofs.heap.Waiting.push.Goals as goal
+
+pub rise-requires : goal.rise-requires
+rise-requires c =
+    let p = c.requires in
+    (omega arith, push_rising c.args.self.now.entries c.args.self.now.len c.args.entry (omega arith) p.1 p.2)
+
+pub returns-clause-pushed : goal.returns-clause-pushed
+returns-clause-pushed c =
+    pushed c.args.self.now.entries c.args.self.now.len c.args.entry (omega arith) c.rise.ensures
