@@ -9,7 +9,6 @@ use native.Mathlib.Omega.{arith}
 use borrow.Author.Tests.{ltb-true, ltb-false, le-ltb}
 use lib.Dec.{T, ltb}
 use lib.ListN.{length, length-set}
-use lib.Ieee.{Float, nan}
 use Rattle.search.specs.declared.Entry.{Entry}
 use Rattle.search.specs.Order.{entry_before, NumberGap, ◌≼◌}
 use Rattle.search.specs.Heap.{no_entry, entry_at, parent, Heaped, total_weight}

@@ -1,5 +1,4 @@
 -- `search::search_in` meets its contract: every outline is below a node that waits, or the best is at most it. Assumes nothing.
-use mathlib.Core.Path.{◌≡◌}
 use lib.ListN.{length}
 use Rattle.search.specs.Heap.{entry_at, total_weight}
 use Rattle.index.specs.Buffer.{buffer}

@@ -1,5 +1,5 @@
 -- `search::heap::rise` meets its contract: while the entry is before its parent, the two are exchanged. The measure is its place. Assumes nothing.
-use mathlib.Core.Path.{sym, ap, ◌∙◌}
+use mathlib.Core.Path.{sym, ◌∙◌}
 use native.Mathlib.Omega.{arith}
 use borrow.Author.Rules.{rules}
 use Rattle.search.proofs.SiftLaws.{moving, rises_says, risen, rise_turn}

@@ -1,5 +1,5 @@
 -- `search::heap::sink` meets its contract: while a child is before the entry, the entry is exchanged with the lesser child. The measure is how many places are past it. Assumes nothing.
-use mathlib.Core.Path.{sym, ap, ◌∙◌}
+use mathlib.Core.Path.{sym, ◌∙◌}
 use native.Mathlib.Omega.{arith}
 use borrow.Author.Rules.{rules}
 use Rattle.search.proofs.SiftLaws.{moving, sunk, least_place, sink_turn}
