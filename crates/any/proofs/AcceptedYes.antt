@@ -48,6 +48,6 @@ module _ (v : List Float) (cs : List ℕ) (p : Point) (B : IndexBuffer) (passed 
       let l = s.1 in
       (s.0, omega arith, s.2, s.3)
     where
-      told_yes : (b : Bool) → Ok (cond b 1 0) ≡ Ok 1 → b ≡ true
+      told_yes : (b : Bool) → ◌≡◌ {A = Answer ℕ} (Ok (cond b 1 0)) (Ok 1) → b ≡ true
       told_yes true e = refl
       told_yes false e = let z : ◌≡◌ {A = ℕ} 0 1 = cc in absurd (omega arith)

@@ -8,10 +8,11 @@ ghost use Rattle.set.specs.Set.{start_of, outlines_of, Fit, Fitting};
 ghost use Rattle.set.specs.Answers.{worked, Ready, Starts, Indexed};
 ghost use Rattle.any.specs.Answers.{contains_in, any_at, any_outcome};
 
-use accept::{Answer, Test};
+use accept::Refusal;
 use boundary::{Bounds, Point};
 use geometry::polygon;
 use index::building;
+use nodes::IndexView;
 use set::{frame, outlines, refusals};
 
 // Whether outline k contains p: past the last outline there is none.
@@ -27,34 +28,24 @@ fn any_holds(v: &[f64], counts: &[u32], starts: &[u32], list: &[u32], p: Point) 
     requires { (2 * start_of counts.now (length counts.now) ≤ length v.now) × Starts counts.now starts.now }
     ensures { result ≡ any (contains_in (outlines_of v.now counts.now) p) list.now }
 {
-    let mut i = 0;
-    while i < list.len() {
-        if holds_at(v, counts, starts, lists::at(list, i, 0) as usize, p) {
+    for k in list {
+        if holds_at(v, counts, starts, *k as usize, p) {
             return true;
         }
-        i += 1;
     }
     false
 }
 
 // Whether an outline that the walk of the set's index lists for p, as a cell, contains p.
-fn any_found(
-    v: &[f64],
-    counts: &[u32],
-    starts: &[u32],
-    p: Point,
-    corners: &[f64],
-    links: &[u32],
-    items: &[u32],
-) -> bool
+fn any_found(v: &[f64], counts: &[u32], starts: &[u32], p: Point, view: &IndexView) -> bool
     requires { Fit v.now counts.now × Fitting (outlines_of v.now counts.now) × Starts counts.now starts.now
-        × Indexed (outlines_of v.now counts.now) (buffer corners.now links.now items.now) }
+        × Indexed (outlines_of v.now counts.now) (buffer view.now.corners.now view.now.links.now view.now.items.now) }
     ensures { result ≡ any_at (outlines_of v.now counts.now) p }
 {
     let n = 4 * counts.len();
     let cell = Bounds { min: p, max: p };
     let mut list = [0; 1024];
-    let count = meeting::walk(n, building::LEVELS, corners, links, items, cell, &mut list);
+    let count = meeting::walk(n, building::LEVELS, view, cell, &mut list);
     let l = &list[..];
     any_holds(v, counts, starts, &l[0..count], p)
 }
@@ -76,13 +67,34 @@ fn any_in(
 {
     outlines::put_starts(counts, starts);
     frame::index_set(v, counts, corners, links, items);
-    let found = any_found(v, counts, starts, p, corners, links, items);
+    let view = IndexView {
+        corners,
+        links,
+        items,
+    };
+    let found = any_found(v, counts, starts, p, &view);
     building::clear(corners, links, items);
     found
 }
 
-// The same, with its own space for the starts: that of 32 outlines, where it is enough, since it is filled
-// with zeros first.
+// The same, with its own space for N starts.
+fn any_within<const N: usize>(
+    v: &[f64],
+    counts: &[u32],
+    p: Point,
+    corners: &mut [f64],
+    links: &mut [u32],
+    items: &mut [u32],
+) -> bool
+    requires { Ready v.now counts.now (buffer corners.old links.old items.old) × (length counts.now ≤ N) × (N ≤ 1024) }
+    ensures { record { answer = result; lent = buffer corners.new links.new items.new }
+        ≡ worked (any_at (outlines_of v.now counts.now) p) (buffer corners.old links.old items.old) }
+{
+    let mut starts = [0; N];
+    any_in(v, counts, p, &mut starts, corners, links, items)
+}
+
+// The same. The space for the starts is that of 32 outlines, where it is enough, since it is filled with zeros first.
 fn any_of(
     v: &[f64],
     counts: &[u32],
@@ -96,11 +108,9 @@ fn any_of(
         ≡ worked (any_at (outlines_of v.now counts.now) p) (buffer corners.old links.old items.old) }
 {
     if counts.len() <= 32 {
-        let mut starts = [0; 32];
-        return any_in(v, counts, p, &mut starts, corners, links, items);
+        return any_within::<32>(v, counts, p, corners, links, items);
     }
-    let mut starts = [0; 1024];
-    any_in(v, counts, p, &mut starts, corners, links, items)
+    any_within::<1024>(v, counts, p, corners, links, items)
 }
 
 // Whether an outline of the set that `meeting` lists for p, as a cell, contains p: 1, or 0.
@@ -111,19 +121,11 @@ pub fn any_at(
     corners: &mut [f64],
     links: &mut [u32],
     items: &mut [u32],
-) -> Answer
+) -> Result<u32, Refusal>
     ensures { record { answer = result; lent = buffer corners.new links.new items.new }
         ≡ any_outcome v.now counts.now p (buffer corners.old links.old items.old) }
 {
-    let t = refusals::query_tested(v, counts, p, corners, links, items);
-    match t {
-        Test::Passed => {
-            Answer::Count(if any_of(v, counts, p, corners, links, items) {
-                1
-            } else {
-                0
-            })
-        }
-        Test::Failed(r) => Answer::Refused(r),
-    }
+    refusals::query_tested(v, counts, p, corners, links, items)?;
+    let found = any_of(v, counts, p, corners, links, items);
+    Ok(u32::from(found))
 }

@@ -15,7 +15,7 @@ ghost use Rattle.boundary.specs.Length.{edge_length, length_of};
 
 // A point, in µm.
 #[repr(C)]
-#[derive(Clone, Copy)]
+#[derive(Clone, Copy, PartialEq)]
 pub struct Point {
     pub x: f64,
     pub y: f64,
@@ -60,10 +60,8 @@ fn held(x: f64)
 pub fn all_held(v: &[f64])
     ensures { Doubles v.now }
 {
-    let mut i = 0;
-    while i < v.len() {
-        held(lists::number_at(v, i));
-        i += 1;
+    for x in v {
+        held(*x);
     }
 }
 
@@ -92,7 +90,7 @@ pub fn vertex_at(v: &[f64], i: usize) -> Point
 pub fn same_point(p: Point, q: Point) -> bool
     ensures { result ≡ same_point p q }
 {
-    (p.x == q.x) & (p.y == q.y)
+    p == q
 }
 
 // The number of the vertex after vertex i of n.
@@ -155,10 +153,8 @@ pub fn length(v: &[f64]) -> f64
 {
     let n = v.len() / 2;
     let mut sum = 0.0;
-    let mut i = 0;
-    while i < n {
-        sum = sum + line_length(edge_at(v, i));
-        i += 1;
+    for i in 0..n {
+        sum += line_length(edge_at(v, i));
     }
     sum
 }

@@ -1,16 +1,20 @@
--- The loop of the first pass: one line is looked at in each turn, until one comes in. Assumes nothing.
-use mathlib.Core.Path.{◌≡◌}
+-- The loop of the first pass: one line is looked at in each turn, until one comes in; and what its answer says. Assumes nothing.
+use mathlib.Core.Path.{◌≡◌, refl}
 use mathlib.Core.Bool.{Bool, true, false, cond}
-use mathlib.Core.List.{List}
+use mathlib.Core.List.{List, [], ◌∷◌}
 use Prim.Native.Nat.{ℕ, suc, ◌+◌, ◌-◌, ◌≤◌, ◌<◌}
 use native.Mathlib.Numerals.{add-one}
 use native.Mathlib.Omega.{arith}
-use lib.ListN.{get_or}
+use lib.ListN.{length, get_or}
+use lib.Dec.{ltb}
+use borrow.Author.Tests.{lt-ltb, le-ltb, ltb-true, ltb-false}
 use lib.Ieee.{Float, nan}
 use Rattle.boundary.specs.declared.Edge.{Edge}
 use Rattle.lists.specs.Lists.{run}
 use Rattle.clip.specs.declared.HalfPlane.{HalfPlane}
 use Rattle.clip.specs.declared.Marks.{Marks}
+use Rattle.clip.specs.declared.FirstPass.{FirstPass}
+use Rattle.clip.specs.declared.FirstPass.TheVariants.{StartsAt, AllKept, NoneKept}
 use Rattle.clip.specs.Passes.{marks_between, marks_of, comes_in, start_line}
 use Rattle.clip.specs.Lent.{line_at}
 
@@ -29,10 +33,54 @@ module _ (s : HalfPlane) (g : ℕ → Edge) (before : Bool) (i n : ℕ) where
   start_here m l e h = let k : n - i ≡ suc (n - (i + 1)) = omega arith in rw (k, ← e, h)
 
   pub start_later : (m : Marks) → i < n → m ≡ marks_of s (g i) → comes_in before m ≡ false
-      → i + start_line s before (run g i (n - i)) ≡ i + 1 + start_line s m.endKept (run g (i + 1) (n - (i + 1)))
+      → i + start_line s before (run g i (n - i)) ≡ i + 1 + start_line s m.end_kept (run g (i + 1) (n - (i + 1)))
   unfolding run start_line
   start_later m l e h = let k : n - i ≡ suc (n - (i + 1)) = omega arith in rw (k, ← e, h, add-one i) (omega arith)
 
   pub start_past_all : n ≤ i → start_line s before (run g i (n - i)) ≡ 0
   unfolding run start_line
   start_past_all l = let k : n - i ≡ 0 = omega arith in rw k
+
+pub start_le : (s : HalfPlane) (b : Bool) (es : List Edge) → start_line s b es ≤ length es
+unfolding start_line
+start_le s b [] = omega arith
+start_le s b (e ∷ es) = by (comes_in b (marks_of s e)) _ _ (start_le s (marks_of s e).end_kept es)
+  where
+    by : (c : Bool) (j m : ℕ) → j ≤ m → cond c 0 (suc j) ≤ suc m
+    by true j m h = omega arith
+    by false j m h = omega arith
+
+-- ---- the answer: the line that comes in, the j-th of m, or that none does, where k is the mark of all parts
+abbrev told : ℕ → ℕ → Bool → FirstPass
+told j m k = cond (ltb j m) (StartsAt j) (cond k AllKept NoneKept)
+
+module _ (j m : ℕ) (k : Bool) where
+  pub tells_start : (i : ℕ) → j ≡ i → i < m → StartsAt i ≡ told j m k
+  tells_start i e l = rw (e, lt-ltb i m l)
+
+  pub tells_none : m ≤ j → cond k AllKept NoneKept ≡ told j m k
+  tells_none l = rw (le-ltb j m l)
+
+  pub start_told : (i : ℕ) → told j m k ≡ StartsAt i → (j ≡ i) × (j < m)
+  start_told i = by (ltb j m) refl k
+    where
+      by : (b : Bool) → ltb j m ≡ b → (c : Bool) → cond b (StartsAt j) (cond c AllKept NoneKept) ≡ StartsAt i → (j ≡ i) × (j < m)
+      by true l c e = (cc, ltb-true j m l)
+      by false l true e = absurd (cc)
+      by false l false e = absurd (cc)
+
+  pub all_told : told j m k ≡ AllKept → (m ≤ j) × (k ≡ true)
+  all_told = by (ltb j m) refl k
+    where
+      by : (b : Bool) → ltb j m ≡ b → (c : Bool) → cond b (StartsAt j) (cond c AllKept NoneKept) ≡ AllKept → (m ≤ j) × (c ≡ true)
+      by true l c e = absurd (cc)
+      by false l true e = (ltb-false j m l, refl)
+      by false l false e = absurd (cc)
+
+  pub none_told : told j m k ≡ NoneKept → (m ≤ j) × (k ≡ false)
+  none_told = by (ltb j m) refl k
+    where
+      by : (b : Bool) → ltb j m ≡ b → (c : Bool) → cond b (StartsAt j) (cond c AllKept NoneKept) ≡ NoneKept → (m ≤ j) × (c ≡ false)
+      by true l c e = absurd (cc)
+      by false l true e = absurd (cc)
+      by false l false e = (ltb-false j m l, refl)

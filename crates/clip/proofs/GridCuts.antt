@@ -33,6 +33,8 @@ use Rattle.boundary.specs.declared.Edge.{Edge}
 use Rattle.boundary.specs.Line.{along_of, half}
 use Rattle.boundary.specs.Boxes.{PointOf, EdgeOf}
 use Rattle.clip.specs.declared.HalfPlane.{HalfPlane}
+use Rattle.std.proofs.Common.{Some, None}
+use Rattle.std.specs.Option.{is_some}
 use Rattle.clip.specs.declared.Marks.{Marks}
 use Rattle.clip.specs.Clip.{coord_of, crossing, crosses, Part, parts_of, parts, KeptWhole}
 use Rattle.clip.specs.Passes.{coord_inside, cut_at, mark_at, uncut_of, marks_between, marks_of}
@@ -401,18 +403,18 @@ module _ (s : HalfPlane) (a b : Float) (A B C : ℤ) (ha : Is 10 a A) (hb : Is 1
 
 -- ---- a line of the grid that is cut: one part is inside and the other is not
 abbrev two : Bool → Float → Bool → Bool → Bool → Marks
-two c u f l w = cond c (record { cut = true; u = u; startKept = f; endKept = l }) (record { cut = false; u = zeroᶠ; startKept = w; endKept = w })
+two c u f l w = cond c (record { cut = Some u; start_kept = f; end_kept = l }) (record { cut = None; start_kept = w; end_kept = w })
 
-two_differ : (u : Float) (c f l w : Bool) → (c ≡ true → not f ≡ l) → (two c u f l w).cut ≡ true → not (two c u f l w).startKept ≡ (two c u f l w).endKept
+two_differ : (u : Float) (c f l w : Bool) → (c ≡ true → not f ≡ l) → is_some (two c u f l w).cut ≡ true → not (two c u f l w).start_kept ≡ (two c u f l w).end_kept
 two_differ u true f l w h k = h refl
 two_differ u false f l w h k = absurd (true≢false (sym k))
 
-two_cut : (u : Float) (c f l w : Bool) → (two c u f l w).cut ≡ c
+two_cut : (u : Float) (c f l w : Bool) → is_some (two c u f l w).cut ≡ c
 two_cut u true f l w = refl
 two_cut u false f l w = refl
 
 pub cut_grid_marks : (s : HalfPlane) (a b : Float) {A B C : ℤ} → Is 10 a A → Is 10 b B → Is 10 s.v C → nat_abs A ≤ 2 ^ 30 → nat_abs B ≤ 2 ^ 30 → nat_abs C ≤ 2 ^ 30
-    → (marks_between s a b).cut ≡ true → not (marks_between s a b).startKept ≡ (marks_between s a b).endKept
+    → is_some (marks_between s a b).cut ≡ true → not (marks_between s a b).start_kept ≡ (marks_between s a b).end_kept
 unfolding marks_between uncut_of
 cut_grid_marks s a b {A} {B} {C} ha hb hv na nb nc =
     two_differ _ (cut_at (sub binary64 b a) (div binary64 (sub binary64 s.v a) (sub binary64 b a))) _ _ _ (cut_differs s a b A B C ha hb hv na nb nc)
@@ -426,7 +428,7 @@ coord_steps : (y : Bool) (p : Point) → PointOf InSteps p → InSteps (cond y p
 coord_steps true p f = f.y
 coord_steps false p f = f.x
 
-grid_differ : (s : HalfPlane) (e : Edge) → InSteps s.v → EdgeOf InSteps e → (marks_of s e).cut ≡ true → not (marks_of s e).startKept ≡ (marks_of s e).endKept
+grid_differ : (s : HalfPlane) (e : Edge) → InSteps s.v → EdgeOf InSteps e → is_some (marks_of s e).cut ≡ true → not (marks_of s e).start_kept ≡ (marks_of s e).end_kept
 unfolding marks_of
 grid_differ s e v h =
     let p = coord_steps s.y e.a h.a in
@@ -434,7 +436,7 @@ grid_differ s e v h =
     cut_grid_marks s (coord_of s e.a) (coord_of s e.b) p.1.is q.1.is v.1.is p.1.near q.1.near v.1.near
 
 -- a line whose parts are inside is not cut
-marks_cut : (s : HalfPlane) (e : Edge) → (marks_of s e).cut ≡ crosses s e
+marks_cut : (s : HalfPlane) (e : Edge) → is_some (marks_of s e).cut ≡ crosses s e
 unfolding marks_of marks_between uncut_of crosses
 marks_cut s e = two_cut (crossing s e) (crosses s e) _ _ _
 
@@ -448,7 +450,7 @@ one_outside false f l x y h k = refl
 
 grid_uncut : (s : HalfPlane) (e : Edge) → InSteps s.v → EdgeOf InSteps e → any (λ p. not p.kept) (parts_of s e) ≡ false → crosses s e ≡ false
 grid_uncut s e v h k =
-    sym (marks_cut s e) ∙ one_outside (marks_of s e).cut (marks_of s e).startKept (marks_of s e).endKept _ _ (grid_differ s e v h) (sym (ap (any (λ p. not p.kept)) (parts_marks s e)) ∙ k)
+    sym (marks_cut s e) ∙ one_outside (is_some (marks_of s e).cut) (marks_of s e).start_kept (marks_of s e).end_kept _ _ (grid_differ s e v h) (sym (ap (any (λ p. not p.kept)) (parts_marks s e)) ∙ k)
 
 grid_none_cut : (s : HalfPlane) (es : List Edge) → InSteps s.v → Every (EdgeOf InSteps) es → any (λ p. not p.kept) (parts s es) ≡ false → any (crosses s) es ≡ false
 unfolding parts flat_map Every any fold

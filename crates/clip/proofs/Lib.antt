@@ -10,7 +10,7 @@ pub mod PassLaws
 pub mod KeepsAllLaws
 -- Going round a list of lines.
 pub mod RoundLaws
--- Lines written to a lent list.
+-- Lines in a list of numbers, and written to it.
 pub mod LentLaws
 -- A list that goes from one half to the other.
 pub mod StageLaws
@@ -22,3 +22,5 @@ pub mod GridCuts
 pub mod ShortenedLaws
 -- The edges of an outline between vertices outside one bound of a strip, drawn as one.
 pub mod StripLaws
+-- A list cut into two halves and the rest.
+pub mod HalvesLaws

@@ -15,7 +15,7 @@ use Rattle.algebra.proofs.Lin as L
 use Rattle.algebra.proofs.Lin.{le_from}
 use Rattle.algebra.specs.Order.{◌≦◌, ◌≺◌, ≤ℤ-or-<ℤ, <ℤ→≤ℤ, pos_nonneg}
 use Rattle.algebra.proofs.Mono.{mul_mono}
-use Rattle.number.specs.Exact.{Is, zeroᶠ}
+use Rattle.number.specs.Exact.{Is}
 use Rattle.number.specs.Rounding.{Rounds, Rounded, Result}
 use Rattle.number.proofs.Operations.{equation→is, is_unique, zero_is, add_rounds, sub_rounds}
 use Rattle.number.proofs.RoundingLaws.{rounds_order, rounds_order_is, rounded_neg, rounded_nonneg, rounded_relative_plus, result_cancel}
@@ -26,6 +26,7 @@ use Rattle.boundary.specs.Line.{along_of, half}
 use Rattle.boundary.specs.declared.Point.{Point}
 use Rattle.boundary.specs.Boxes.{FieldValue, FieldPoint}
 use Rattle.boundary.proofs.FieldLaws.{field_is, way_in_field}
+use Rattle.std.proofs.Common.{None}
 use Rattle.clip.specs.declared.HalfPlane.{HalfPlane}
 use Rattle.clip.specs.Clip.{in_half_plane}
 use Rattle.clip.specs.Passes.{coord_inside, cut_at, mark_at, uncut_of, marks_between}
@@ -176,7 +177,7 @@ side_uncut s a b fa fb fv = go s.above
 
 -- both ends inside, or both outside: not cut, and marked as they are
 pub side_marks : (s : HalfPlane) (a b : Float) → FieldValue a → FieldValue b → FieldValue s.v → (k : Bool) → coord_inside s a ≡ k → coord_inside s b ≡ k
-    → marks_between s a b ≡ record { cut = false; u = zeroᶠ; startKept = k; endKept = k }
+    → marks_between s a b ≡ record { cut = None; start_kept = k; end_kept = k }
 unfolding marks_between uncut_of mark_at
 side_marks s a b fa fb fv k p q = rw (side_uncut s a b fa fb fv k p q, mid_side s a b fa fb k p q)
 

@@ -6,16 +6,17 @@ use Prim.Native.Nat.{ℕ, suc, ◌<◌}
 use native.Mathlib.Omega.{arith}
 use lib.ListN.{length, take, drop}
 use lib.Ieee.{Float, eq}
+use Rattle.std.proofs.Common.{Some, None}
+use Rattle.std.specs.Option.{is_some}
 use Rattle.boundary.specs.declared.Point.{Point}
 use Rattle.boundary.specs.declared.Edge.{Edge}
 use Rattle.lists.specs.Lists.{fold, any}
 use Rattle.boundary.specs.Line.{along_of}
 use Rattle.number.specs.Exact.{zeroᶠ, one}
-use Rattle.boundary.specs.Outline.{same_point}
 use Rattle.clip.specs.declared.HalfPlane.{HalfPlane}
 use Rattle.clip.specs.declared.Marks.{Marks}
 use Rattle.clip.specs.Clip.{point_along, coord_of, in_half_plane, crossing, crosses, Part, part_of, parts_of, parts, lead, last_kept, rotated, kept_lines, joint, onward, joined, clip_of}
-use Rattle.clip.specs.Passes.{mark_at, uncut_of, marks_between, marks_of, first_part, last_part, comes_in, start_line, Path, if_on, line_between, followed, step_of, nothing, closed_path, traced}
+use Rattle.clip.specs.Passes.{mark_at, uncut_of, marks_between, marks_of, first_part, last_part, comes_in, start_line, Path, followed, step_of, nothing, closed_path, traced}
 use Rattle.lists.proofs.FoldLaws.{any_from, any_append, fold_append}
 
 -- ---- the parts of one line
@@ -32,28 +33,28 @@ unfolding in_half_plane mark_at
 inside_at s e u = rw (coord_at s.y e u)
 
 abbrev two : Bool → Float → Bool → Bool → Bool → Marks
-two c u f a w = cond c (record { cut = true; u = u; startKept = f; endKept = a }) (record { cut = false; u = zeroᶠ; startKept = w; endKept = w })
+two c u f a w = cond c (record { cut = Some u; start_kept = f; end_kept = a }) (record { cut = None; start_kept = w; end_kept = w })
 
 two_parts : (e : Edge) (c : Bool) (u : Float) (f a w : Bool)
     → cond c (record { line = record { a = point_along e zeroᶠ; b = point_along e u }; kept = f } ∷ record { line = record { a = point_along e u; b = point_along e one }; kept = a } ∷ []) (record { line = e; kept = w } ∷ [])
-    ≡ blocks (two c u f a w).cut (two c u f a w).startKept (two c u f a w).endKept (first_part (two c u f a w) e) (last_part (two c u f a w) e)
+    ≡ blocks (is_some (two c u f a w).cut) (two c u f a w).start_kept (two c u f a w).end_kept (first_part (two c u f a w) e) (last_part (two c u f a w) e)
 unfolding point_along along_of eq first_part last_part
 two_parts e true u f a w = refl
 two_parts e false u f a w = refl
 
-two_whole : (c : Bool) (u : Float) (f a w : Bool) → (two c u f a w).cut ≡ false → (two c u f a w).endKept ≡ (two c u f a w).startKept
+two_whole : (c : Bool) (u : Float) (f a w : Bool) → is_some (two c u f a w).cut ≡ false → (two c u f a w).end_kept ≡ (two c u f a w).start_kept
 two_whole true u f a w e = absurd (true≢false e)
 two_whole false u f a w e = refl
 
 abbrev marks : HalfPlane → Edge → List Part
-marks s e = let m = marks_of s e in blocks m.cut m.startKept m.endKept (first_part m e) (last_part m e)
+marks s e = let m = marks_of s e in blocks (is_some m.cut) m.start_kept m.end_kept (first_part m e) (last_part m e)
 
 pub parts_marks : (s : HalfPlane) (e : Edge) → parts_of s e ≡ marks s e
 unfolding parts_of part_of marks_of marks_between uncut_of crosses
 parts_marks s e = simp inside_at (two_parts e (crosses s e) (crossing s e) _ _ _)
 
 -- a line that is not cut has one mark
-whole : (s : HalfPlane) (e : Edge) → (marks_of s e).cut ≡ false → (marks_of s e).endKept ≡ (marks_of s e).startKept
+whole : (s : HalfPlane) (e : Edge) → is_some (marks_of s e).cut ≡ false → (marks_of s e).end_kept ≡ (marks_of s e).start_kept
 unfolding marks_of marks_between uncut_of crosses
 whole s e = two_whole (crosses s e) (crossing s e) _ _ _
 
@@ -74,7 +75,7 @@ module _ (s : HalfPlane) where
   parts_cons e es = rw (parts_marks s e)
 
   pub any_parts : (q : Bool → Bool) (e : Edge) (es : List Edge)
-      → any (λ p. q p.kept) (parts s (e ∷ es)) ≡ (q (marks_of s e).startKept || q (marks_of s e).endKept) || any (λ p. q p.kept) (parts s es)
+      → any (λ p. q p.kept) (parts s (e ∷ es)) ≡ (q (marks_of s e).start_kept || q (marks_of s e).end_kept) || any (λ p. q p.kept) (parts s es)
   any_parts q e es =
       ap (any (λ p. q p.kept)) (parts_cons e es)
       ∙ any_append (λ p. q p.kept) (marks s e) (parts s es)
@@ -106,21 +107,21 @@ some_last [] h = absurd (true≢false (sym h))
 some_last (p ∷ ps) h = h
 
 module _ (s : HalfPlane) where
-  last_cons : (b : Bool) (e : Edge) (es : List Edge) → last_from b (parts s (e ∷ es)) ≡ last_from (marks_of s e).endKept (parts s es)
+  last_cons : (b : Bool) (e : Edge) (es : List Edge) → last_from b (parts s (e ∷ es)) ≡ last_from (marks_of s e).end_kept (parts s es)
   unfolding last_from
   last_cons b e es =
       ap (fold (λ b p. p.kept) b) (parts_cons s e es)
       ∙ fold_append (λ b p. p.kept) b (marks s e) (parts s es)
-      ∙ ap (λ c. fold (λ b p. p.kept) c (parts s es)) (last_blocks _ _ b (marks_of s e).cut (marks_of s e).startKept (marks_of s e).endKept (whole s e))
+      ∙ ap (λ c. fold (λ b p. p.kept) c (parts s es)) (last_blocks _ _ b (is_some (marks_of s e).cut) (marks_of s e).start_kept (marks_of s e).end_kept (whole s e))
 
   -- no line comes in after a part that is not kept: none is kept
   pub no_entry_out : (es : List Edge) → start_line s false es ≡ length es → any (λ p. p.kept) (parts s es) ≡ false
   unfolding start_line any fold parts flat_map
   no_entry_out [] h = refl
-  no_entry_out (e ∷ es) h = any_parts s (λ b. b) e es ∙ by (marks_of s e).startKept (marks_of s e).endKept (no_entry_out es) h
+  no_entry_out (e ∷ es) h = any_parts s (λ b. b) e es ∙ by (marks_of s e).start_kept (marks_of s e).end_kept (no_entry_out es) h
     where
       by : (f a : Bool) → (start_line s false es ≡ length es → any (λ p. p.kept) (parts s es) ≡ false)
-          → cond (comes_in false (record { cut = true; u = zeroᶠ; startKept = f; endKept = a })) 0 (suc (start_line s a es)) ≡ suc (length es) → (f || a) || any (λ p. p.kept) (parts s es) ≡ false
+          → cond (comes_in false (record { cut = None; start_kept = f; end_kept = a })) 0 (suc (start_line s a es)) ≡ suc (length es) → (f || a) || any (λ p. p.kept) (parts s es) ≡ false
       by true a rest k = absurd (omega arith)
       by false true rest k = absurd (omega arith)
       by false false rest k = rest (omega arith)
@@ -129,13 +130,13 @@ module _ (s : HalfPlane) where
   no_entry_in : (es : List Edge) → start_line s true es ≡ length es → last_from true (parts s es) ≡ true → any (λ p. not p.kept) (parts s es) ≡ false
   unfolding start_line any fold parts flat_map
   no_entry_in [] h l = refl
-  no_entry_in (e ∷ es) h l = any_parts s not e es ∙ by (marks_of s e).startKept (marks_of s e).endKept (no_entry_in es) h (sym (last_cons true e es) ∙ l)
+  no_entry_in (e ∷ es) h l = any_parts s not e es ∙ by (marks_of s e).start_kept (marks_of s e).end_kept (no_entry_in es) h (sym (last_cons true e es) ∙ l)
     where
       out : start_line s false es ≡ length es → last_from false (parts s es) ≡ true → ⊥
       out h l = true≢false (sym l ∙ none_last (parts s es) (no_entry_out es h))
 
       by : (f a : Bool) → (start_line s true es ≡ length es → last_from true (parts s es) ≡ true → any (λ p. not p.kept) (parts s es) ≡ false)
-          → cond (comes_in true (record { cut = true; u = zeroᶠ; startKept = f; endKept = a })) 0 (suc (start_line s a es)) ≡ suc (length es) → last_from a (parts s es) ≡ true
+          → cond (comes_in true (record { cut = None; start_kept = f; end_kept = a })) 0 (suc (start_line s a es)) ≡ suc (length es) → last_from a (parts s es) ≡ true
           → (not f || not a) || any (λ p. not p.kept) (parts s es) ≡ false
       by true true rest k l = rest (omega arith) l
       by true false rest k l = absurd (out (omega arith) l)
@@ -149,10 +150,10 @@ module _ (s : HalfPlane) where
   pub first_entry : (b : Bool) (es : List Edge) → start_line s b es < length es → (any (λ p. p.kept) (parts s es) ≡ true) × (b ≡ true → any (λ p. not p.kept) (parts s es) ≡ true)
   unfolding start_line
   first_entry b [] h = absurd (omega arith)
-  first_entry b (e ∷ es) h = rw (any_parts s (λ b. b) e es, any_parts s not e es) (by b (marks_of s e).startKept (marks_of s e).endKept (λ c. first_entry c es) h)
+  first_entry b (e ∷ es) h = rw (any_parts s (λ b. b) e es, any_parts s not e es) (by b (marks_of s e).start_kept (marks_of s e).end_kept (λ c. first_entry c es) h)
     where
       by : (b f a : Bool) → ((c : Bool) → start_line s c es < length es → (any (λ p. p.kept) (parts s es) ≡ true) × (c ≡ true → any (λ p. not p.kept) (parts s es) ≡ true))
-          → cond (comes_in b (record { cut = true; u = zeroᶠ; startKept = f; endKept = a })) 0 (suc (start_line s a es)) < suc (length es)
+          → cond (comes_in b (record { cut = None; start_kept = f; end_kept = a })) 0 (suc (start_line s a es)) < suc (length es)
           → ((f || a) || any (λ p. p.kept) (parts s es) ≡ true) × (b ≡ true → (not f || not a) || any (λ p. not p.kept) (parts s es) ≡ true)
       by false true a rest k = (refl, λ e. absurd (true≢false (sym e)))
       by true true true rest k = (refl, λ e. (rest true (omega arith)).1 refl)
@@ -208,17 +209,17 @@ module _ (s : HalfPlane) where
   unfolding start_line parts lead flat_map
   turned_none b = record { after = refl; front = refl }
 
-  turned_cons : (b : Bool) (e : Edge) (es : List Edge) → TurnedAt (marks_of s e).endKept es → TurnedAt b (e ∷ es)
+  turned_cons : (b : Bool) (e : Edge) (es : List Edge) → TurnedAt (marks_of s e).end_kept es → TurnedAt b (e ∷ es)
   unfolding start_line
   turned_cons b e es h =
-      let j : ℕ = start_line s (marks_of s e).endKept es in
+      let j : ℕ = start_line s (marks_of s e).end_kept es in
       let c : Bool = comes_in b (marks_of s e) in
-      let k = turned_blocks (first_part (marks_of s e) e) (last_part (marks_of s e) e) (parts s es) _ _ b (marks_of s e).cut (marks_of s e).startKept (marks_of s e).endKept (whole s e) h in
+      let k = turned_blocks (first_part (marks_of s e) e) (last_part (marks_of s e) e) (parts s es) _ _ b (is_some (marks_of s e).cut) (marks_of s e).start_kept (marks_of s e).end_kept (whole s e) h in
       rw (parts_cons s e es) (record { after = k.after ∙ sym (drop_to e es j c); front = k.front ∙ sym (take_to e es j c) })
 
   turned_lines : (b : Bool) (es : List Edge) → TurnedAt b es
   turned_lines b [] = turned_none b
-  turned_lines b (e ∷ es) = turned_cons b e es (turned_lines (marks_of s e).endKept es)
+  turned_lines b (e ∷ es) = turned_cons b e es (turned_lines (marks_of s e).end_kept es)
 
 -- ---- the second pass: the path of the lines is that of their kept parts
 write : Path → Edge → Path
@@ -240,24 +241,15 @@ module _ (s : HalfPlane) where
   path_lines t (e ∷ es) =
       let ps : List Part = marks s e in
       path_lines (step_of s t e) es
-      ∙ ap (λ u. fold write u (kept_lines (parts s es))) (path_blocks t _ _ (marks_of s e).cut (marks_of s e).startKept (marks_of s e).endKept)
+      ∙ ap (λ u. fold write u (kept_lines (parts s es))) (path_blocks t _ _ (is_some (marks_of s e).cut) (marks_of s e).start_kept (marks_of s e).end_kept)
       ∙ sym (fold_append write t (kept_lines ps) (kept_lines (parts s es)))
       ∙ sym (ap (fold write t) (ap kept_lines (parts_cons s e es) ∙ kept_append ps (parts s es)))
 
 -- closed, it is the joined lines
-if_joint : (p q : Point) → if_on (not (same_point p q)) (line_between p q) ≡ joint p q
-unfolding joint
-if_joint p q = by (same_point p q)
-  where
-    by : (b : Bool) → cond (not b) (line_between p q ∷ []) [] ≡ cond b [] (line_between p q ∷ [])
-    by true = refl
-    by false = refl
-
-closed_onward : (start last : Point) (out es : List Edge) → closed_path (fold write (record { ends = record { begun = 1; start = start; last = last }; out = out }) es) ≡ out ++ onward start last es
+closed_onward : (start last : Point) (out es : List Edge) → closed_path (fold write (record { ends = Some (record { start = start; last = last }); out = out }) es) ≡ out ++ onward start last es
 unfolding closed_path fold write followed onward
-closed_onward start last out [] = rw (if_joint last start)
-closed_onward start last out (e ∷ es) =
-    closed_onward start e.b ((out ++ if_on (not (same_point last e.a)) (line_between last e.a)) ++ (e ∷ [])) es ∙ rw (if_joint last e.a) (simp append_assoc)
+closed_onward start last out [] = refl
+closed_onward start last out (e ∷ es) = closed_onward start e.b ((out ++ joint last e.a) ++ (e ∷ [])) es ∙ simp append_assoc
 
 closed_joined : (es : List Edge) → closed_path (fold write nothing es) ≡ joined es
 unfolding closed_path fold write followed joined
@@ -285,17 +277,17 @@ module _ (s : HalfPlane) where
   parts_one e = append-nil (parts_of s e) ∙ parts_marks s e
 
   -- the mark of the last part is that of the last line
-  pub last_line : (es : List Edge) (e : Edge) → last_kept (parts s (es ++ (e ∷ []))) ≡ (marks_of s e).endKept
+  pub last_line : (es : List Edge) (e : Edge) → last_kept (parts s (es ++ (e ∷ []))) ≡ (marks_of s e).end_kept
   unfolding last_kept last_from
   last_line es e =
       rw (parts_append es (e ∷ []), parts_one e, fold_append (λ b p. p.kept) false (parts s es) (marks s e))
-      (last_blocks _ _ _ (marks_of s e).cut (marks_of s e).startKept (marks_of s e).endKept (whole s e))
+      (last_blocks _ _ _ (is_some (marks_of s e).cut) (marks_of s e).start_kept (marks_of s e).end_kept (whole s e))
 
   -- where it is not kept, some part is not
-  pub last_dropped : (es : List Edge) (e : Edge) → (marks_of s e).endKept ≡ false → any (λ p. not p.kept) (parts s (es ++ (e ∷ []))) ≡ true
+  pub last_dropped : (es : List Edge) (e : Edge) → (marks_of s e).end_kept ≡ false → any (λ p. not p.kept) (parts s (es ++ (e ∷ []))) ≡ true
   last_dropped es e h =
       rw (parts_append es (e ∷ []), parts_one e, any_append (λ p. not p.kept) (parts s es) (marks s e), any_blocks not (first_part (marks_of s e) e) (last_part (marks_of s e) e) _ _ _ (whole s e), h)
-      (by (any (λ p. not p.kept) (parts s es)) (not (marks_of s e).startKept))
+      (by (any (λ p. not p.kept) (parts s es)) (not (marks_of s e).start_kept))
     where
       by : (a b : Bool) → a || (b || true) ≡ true
       by true b = refl
@@ -314,7 +306,7 @@ module _ (s : HalfPlane) where
   -- a line has a part, which is kept or not
   some_part : (es : List Edge) → any (λ p. not p.kept) (parts s es) ≡ false → any (λ p. p.kept) (parts s es) ≡ false → es ≡ []
   some_part [] h k = refl
-  some_part (e ∷ es) h k = absurd (by (marks_of s e).startKept _ _ _ _ (rw (any_parts s not e es) at h) (rw (any_parts s (λ b. b) e es) at k))
+  some_part (e ∷ es) h k = absurd (by (marks_of s e).start_kept _ _ _ _ (rw (any_parts s not e es) at h) (rw (any_parts s (λ b. b) e es) at k))
     where
       by : (f a b c d : Bool) → (not f || a) || b ≡ false → (f || c) || d ≡ false → ⊥
       by true a b c d h k = true≢false k

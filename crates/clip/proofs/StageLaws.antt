@@ -13,11 +13,12 @@ use Rattle.boundary.specs.declared.Edge.{Edge}
 use Rattle.lists.proofs.RunLaws.{run_last, length_run, take_run, drop_run}
 use Rattle.lists.specs.Lists.{run, fold, any}
 use Rattle.clip.specs.declared.HalfPlane.{HalfPlane}
-use Rattle.clip.specs.declared.FirstPass.{FirstPass}
+use Rattle.clip.specs.declared.FirstPass.TheVariants.{StartsAt, AllKept, NoneKept}
 use Rattle.clip.specs.declared.Stored.{Stored}
 use Rattle.clip.specs.Clip.{parts, last_kept, clip_of}
-use Rattle.clip.specs.Passes.{start_line, first_pass_of, traced}
-use Rattle.clip.specs.Lent.{disjoint, Holds, place_of, Stage}
+use Rattle.clip.specs.Passes.{marks_of, start_line, first_pass_of, traced}
+use Rattle.clip.specs.Lent.{Holds, place_of, Stage}
+use Rattle.clip.proofs.FirstPassLaws.{start_le, start_told, all_told, none_told}
 use Rattle.clip.proofs.PassLaws.{no_entry_out, no_entry_kept, first_entry, traced_rotated, last_line, last_dropped, clip_all, clip_some, clip_none}
 
 -- ---- the halves
@@ -25,18 +26,20 @@ pub place_le : (half : ℕ) (b : Bool) → place_of half b + 4 * half ≤ 8 * ha
 place_le half true = omega arith
 place_le half false = omega arith
 
-pub place_apart : (half n : ℕ) (b : Bool) → n ≤ half → disjoint (place_of half b) (4 * n) (place_of half (not b)) (4 * half)
-place_apart half n true l = inr (omega arith)
-place_apart half n false l = inl (omega arith)
-
 -- the list that goes into the first clip
 pub begins : {half : ℕ} {w : List Float} {n : ℕ} {es : List Edge} → Holds 0 half w n es → n ≤ half → Stage half w (record { second = false; n = n }) false es
 begins {half} {w} {n} {es} h l = record { flag = le-ltb half n l; held = λ z. h }
 
 -- ---- what the first pass says
-module _ (s : HalfPlane) (g : ℕ → Edge) (n : ℕ) (l : 1 ≤ n) {f : FirstPass} (e : f ≡ first_pass_of s (g (n - 1)) (run g 0 n)) where
+module _ (s : HalfPlane) (g : ℕ → Edge) (n : ℕ) (l : 1 ≤ n) where
   abbrev es : List Edge
   es = run g 0 n
+
+  abbrev kept : Bool
+  kept = (marks_of s (g (n - 1))).end_kept
+
+  abbrev start : ℕ
+  start = start_line s kept es
 
   by_last : es ≡ run g 0 (n - 1) ++ (g (n - 1) ∷ [])
   by_last =
@@ -44,37 +47,51 @@ module _ (s : HalfPlane) (g : ℕ → Edge) (n : ℕ) (l : 1 ≤ n) {f : FirstPa
       let z : 0 + (n - 1) ≡ n - 1 = omega arith in
       ap (run g 0) k ∙ rw (run_last g 0 (n - 1), z)
 
-  last_is : last_kept (parts s es) ≡ f.kept
-  last_is = ap (λ es. last_kept (parts s es)) by_last ∙ last_line s (run g 0 (n - 1)) (g (n - 1)) ∙ sym (ap (λ (x : FirstPass). x.kept) e)
+  last_is : last_kept (parts s es) ≡ kept
+  last_is = ap (λ es. last_kept (parts s es)) by_last ∙ last_line s (run g 0 (n - 1)) (g (n - 1))
 
-  start_is : f.start ≡ start_line s f.kept es
-  start_is = rw e
+  all_looked_at : length es ≤ start → start ≡ length es
+  all_looked_at h = let k = start_le s kept es in omega arith
 
   -- no line comes in
-  pub all_parts_kept : f.start ≡ n → f.kept ≡ true → any (λ p. not p.kept) (parts s es) ≡ false
-  all_parts_kept h k = no_entry_kept s es (rw k at (sym start_is ∙ h) ∙ sym (length_run g 0 n)) (last_is ∙ k)
+  pub all_parts_kept : first_pass_of s (g (n - 1)) es ≡ AllKept → any (λ p. not p.kept) (parts s es) ≡ false
+  all_parts_kept e =
+      let t = all_told start (length es) kept e in
+      no_entry_kept s es (rw t.1 at (all_looked_at t.0)) (last_is ∙ t.1)
 
-  pub none_kept_lem : f.start ≡ n → f.kept ≡ false → any (λ p. p.kept) (parts s es) ≡ false
-  none_kept_lem h k = no_entry_out s es (rw k at (sym start_is ∙ h) ∙ sym (length_run g 0 n))
+  pub none_kept_lem : first_pass_of s (g (n - 1)) es ≡ NoneKept → any (λ p. p.kept) (parts s es) ≡ false
+  none_kept_lem e =
+      let t = none_told start (length es) kept e in
+      no_entry_out s es (rw t.1 at (all_looked_at t.0))
 
-  pub last_out : f.kept ≡ false → any (λ p. not p.kept) (parts s es) ≡ true
-  last_out k = rw by_last (last_dropped s (run g 0 (n - 1)) (g (n - 1)) (sym (ap (λ (x : FirstPass). x.kept) e) ∙ k))
+  out_at_last : kept ≡ false → any (λ p. not p.kept) (parts s es) ≡ true
+  out_at_last k = rw by_last (last_dropped s (run g 0 (n - 1)) (g (n - 1)) k)
+
+  pub last_out : first_pass_of s (g (n - 1)) es ≡ NoneKept → any (λ p. not p.kept) (parts s es) ≡ true
+  last_out e = out_at_last (none_told start (length es) kept e).1
 
   -- one does
-  pub some_dropped : f.start < n → any (λ p. not p.kept) (parts s es) ≡ true
-  some_dropped h = by f.kept refl
-    where
-      by : (b : Bool) → f.kept ≡ b → any (λ p. not p.kept) (parts s es) ≡ true
-      by true k = (first_entry s f.kept es (rw (length_run g 0 n, ← start_is) h)).1 k
-      by false k = last_out k
+  module _ (i : ℕ) (e : first_pass_of s (g (n - 1)) es ≡ StartsAt i) where
+    comes : (start ≡ i) × (start < length es)
+    comes = start_told start (length es) kept i e
 
-  -- the path that the second pass writes is the clip
-  pub clip_traced : f.start < n → clip_of s es ≡ traced s (run g f.start (n - f.start)) (run g 0 f.start)
-  clip_traced h =
-      let m : f.start ≤ n = omega arith in
-      clip_some s es (some_dropped h) (first_entry s f.kept es (rw (length_run g 0 n, ← start_is) h)).0
-      ∙ sym (traced_rotated s es f.kept last_is)
-      ∙ rw (← start_is, drop_run g f.start n m, take_run g f.start n m)
+    pub starts_below : i < n
+    starts_below = omega (arith, comes.0, comes.1, length_run g 0 n)
+
+    pub some_dropped : any (λ p. not p.kept) (parts s es) ≡ true
+    some_dropped = by kept refl
+      where
+        by : (b : Bool) → kept ≡ b → any (λ p. not p.kept) (parts s es) ≡ true
+        by true k = (first_entry s kept es comes.1).1 k
+        by false k = out_at_last k
+
+    -- the path that the second pass writes is the clip
+    pub clip_traced : clip_of s es ≡ traced s (run g i (n - i)) (run g 0 i)
+    clip_traced =
+        let m : i ≤ n = let k = starts_below in omega arith in
+        clip_some s es some_dropped (first_entry s kept es comes.1).0
+        ∙ sym (traced_rotated s es kept last_is)
+        ∙ rw (comes.0, drop_run g i n m, take_run g i n m)
 
 -- ---- the three ways of a clip
 module _ (half : ℕ) (s : HalfPlane) (es : List Edge) where

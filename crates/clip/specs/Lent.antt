@@ -1,5 +1,5 @@
 -- The lines that stand in a lent list, four numbers each, and what is left of the list while they are written. Inner definitions. Definitions only.
-use Rattle.std.specs.Prelude.{◌≡◌, ◌⊎◌, Bool, false, not, ◌||◌, cond, List, ℕ, ◌+◌, ◌*◌, ◌<◌, ◌≤◌, ltb, length, get_or, set, drop, Float}
+use Rattle.std.specs.Prelude.{◌≡◌, ◌⊎◌, Bool, false, not, ◌||◌, cond, List, ℕ, ◌+◌, ◌*◌, ◌/◌, ◌<◌, ◌≤◌, ltb, length, get_or, set, drop, Float}
 use Rattle.std.specs.Float.{nan}
 use Rattle.boundary.specs.declared.Edge.{Edge}
 use Rattle.lists.specs.Lists.{run, any}
@@ -20,18 +20,13 @@ line_in w from i = line_at w (from + 4 * i)
 abbrev pub lines_from : List Float → ℕ → ℕ → ℕ → List Edge
 lines_from w from i n = run (line_in w from) i n
 
+-- how many lines a list of numbers has room for
+abbrev pub room_of : List Float → ℕ
+room_of w = length w / 4
+
 -- the list with a line stored at o
 abbrev pub put_at : List Float → ℕ → Edge → List Float
 put_at w o e = set (set (set (set w o e.a.x) (o + 1) e.a.y) (o + 2) e.b.x) (o + 3) e.b.y
-
--- two ranges share no place
-abbrev pub disjoint : ℕ → ℕ → ℕ → ℕ → Type 0
-disjoint o m to size = (o + m ≤ to) ⊎ (to + size ≤ o)
-
--- ---- w has become v, and nothing but the `size` numbers from `to` on has changed
-pub record Beside (to size : ℕ) (w v : List Float) : Type 0 where
-  pub same : length v ≡ length w
-  pub keeps : (i : ℕ) → (i < to) ⊎ (to + size ≤ i) → get_or v i nan ≡ get_or w i nan
 
 -- ---- es has n lines; where that is no more than `room`, they stand in w from `to` on
 pub record Holds (to room : ℕ) (w : List Float) (n : ℕ) (es : List Edge) : Type 0 where

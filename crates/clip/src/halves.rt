@@ -1,8 +1,9 @@
 // `clip` from one half of a lent list to the other.
-ghost use Rattle.std.specs.Prelude.{◌≡◌, ◌*◌, ◌<◌, ◌≤◌, length};
-ghost use Rattle.clip.specs.Lent.{place_of, Clipped};
+ghost use Rattle.std.specs.Prelude.{◌≡◌, ◌-◌, ◌*◌, ◌<◌, ◌≤◌, length, drop, not};
+ghost use Rattle.clip.specs.Lent.{place_of, lines_from, Holds, Clipped};
+ghost use Rattle.clip.specs.Passes.{traced};
 
-use crate::{HalfPlane, Stored, path, scan};
+use crate::{FirstPass, HalfPlane, Stored, path, scan};
 
 // Where a half starts.
 pub fn place(half: usize, second: bool) -> usize
@@ -10,6 +11,22 @@ pub fn place(half: usize, second: bool) -> usize
     ensures { result ≡ place_of half second }
 {
     if second { 4 * half } else { 0 }
+}
+
+// The path of a list's lines, from line `start` on and going round, written to the other half; how many lines it
+// has.
+fn retrace(w: &mut [f64], half: usize, c: Stored, s: HalfPlane, start: usize) -> usize
+    requires { (8 * half ≤ length w.old) × (c.n ≤ half) × (start < c.n) }
+    ensures { (drop (8 * half) w.new ≡ drop (8 * half) w.old)
+        × Holds (place_of half (not c.second)) half w.new result (traced s (lines_from w.old (place_of half c.second) start (c.n - start)) (lines_from w.old (place_of half c.second) 0 start)) }
+{
+    let (first, rest) = w.split_at_mut(4 * half);
+    let (second, _) = rest.split_at_mut(4 * half);
+    if c.second {
+        path::trace(&second[..4 * c.n], s, first, start)
+    } else {
+        path::trace(&first[..4 * c.n], s, second, start)
+    }
 }
 
 // A list of at least one line and at most `half`, clipped. Where every part is inside it stays where it
@@ -21,18 +38,13 @@ fn clip_some(w: &mut [f64], half: usize, c: Stored, s: HalfPlane) -> Stored
     let n = c.n;
     let second = c.second;
     let from = place(half, second);
-    let found = scan::first_pass(w, from, n, s);
-    if found.start == n {
-        if found.kept {
-            return Stored { second, n };
-        }
-        return Stored { second, n: 0 };
-    }
-    let to = place(half, !second);
-    let m = path::trace(w, s, from, n, to, half, found.start);
-    Stored {
-        second: !second,
-        n: m,
+    match scan::first_pass(&w[from..from + 4 * n], s) {
+        FirstPass::AllKept => c,
+        FirstPass::NoneKept => Stored { second, n: 0 },
+        FirstPass::StartsAt(start) => Stored {
+            second: !second,
+            n: retrace(w, half, c, s, start),
+        },
     }
 }
 

@@ -17,36 +17,34 @@ pub struct HalfPlane {
     pub v: f64,
 }
 
-// Whether a line is cut and where, and whether its first and its last part are inside.
+// Where a line is cut, if it is, and whether its first and its last part are inside.
 #[derive(Clone, Copy)]
 pub struct Marks {
-    pub cut: bool,
-    pub u: f64,
-    pub startKept: bool,
-    pub endKept: bool,
+    pub cut: Option<f64>,
+    pub start_kept: bool,
+    pub end_kept: bool,
 }
 
-// What the first pass finds: whether the last part is kept, and how many lines stand before the first that
-// comes in.
+// What the first pass finds: the number of the first line that comes in, where the path starts; or that none
+// comes in, since all parts are kept or none is.
 #[derive(Clone, Copy)]
-pub struct FirstPass {
-    pub kept: bool,
-    pub start: usize,
+pub enum FirstPass {
+    StartsAt(usize),
+    AllKept,
+    NoneKept,
 }
 
-// A path: 0 where it has not begun and else 1, where it starts, and where it ends. (A bool here would
-// cost a stall at each line: the padding after it is copied.)
+// Where a path that has begun starts, and where it ends.
 #[derive(Clone, Copy)]
 pub struct PathEnds {
-    pub begun: usize,
     pub start: Point,
     pub last: Point,
 }
 
-// A path, and how many lines it has.
+// A path, which may not have begun, and how many lines it has.
 #[derive(Clone, Copy)]
 pub struct State {
-    pub ends: PathEnds,
+    pub ends: Option<PathEnds>,
     pub at: usize,
 }
 

@@ -1,7 +1,7 @@
 // The parts of a line, and which of them are inside.
 ghost use Rattle.std.specs.Prelude.{◌≡◌};
 ghost use Rattle.clip.specs.Clip.{point_along, coord_of, in_half_plane};
-ghost use Rattle.clip.specs.Passes.{coord_inside, cut_at, mark_at, uncut_of, marks_between, marks_of, first_part, last_part};
+ghost use Rattle.clip.specs.Passes.{coord_inside, cut_at, mark_at, uncut_of, marks_between, marks_of, before_cut, after_cut};
 
 use crate::{HalfPlane, Marks};
 use boundary::line::along;
@@ -52,10 +52,9 @@ fn uncut(s: HalfPlane, a: f64, b: f64) -> Marks
 {
     let whole = mark(s, a, b, 0.5);
     Marks {
-        cut: false,
-        u: 0.0,
-        startKept: whole,
-        endKept: whole,
+        cut: None,
+        start_kept: whole,
+        end_kept: whole,
     }
 }
 
@@ -72,10 +71,9 @@ pub fn between(s: HalfPlane, a: f64, b: f64) -> Marks
     let u = p / d;
     if is_cut(d, u) {
         return Marks {
-            cut: true,
-            u,
-            startKept: mark(s, a, b, 0.5 * (0.0 + u)),
-            endKept: mark(s, a, b, 0.5 * (u + 1.0)),
+            cut: Some(u),
+            start_kept: mark(s, a, b, 0.5 * (0.0 + u)),
+            end_kept: mark(s, a, b, 0.5 * (u + 1.0)),
         };
     }
     uncut(s, a, b)
@@ -98,27 +96,22 @@ fn point_at(e: Edge, u: f64) -> Point
     }
 }
 
-// The first part of a line; the line itself where it is not cut.
-pub fn first(m: Marks, e: Edge) -> Edge
-    ensures { result ≡ first_part m e }
+// The first part of a line that is cut at u.
+pub fn first(e: Edge, u: f64) -> Edge
+    ensures { result ≡ before_cut e u }
 {
-    if m.cut {
-        Edge {
-            a: point_at(e, 0.0),
-            b: point_at(e, m.u),
-        }
-    } else {
-        e
+    Edge {
+        a: point_at(e, 0.0),
+        b: point_at(e, u),
     }
 }
 
-// The second part of a line that is cut.
-pub fn second(m: Marks, e: Edge) -> Edge
-    ensures { result ≡ last_part m e }
+// The second part.
+pub fn second(e: Edge, u: f64) -> Edge
+    ensures { result ≡ after_cut e u }
 {
-    let b = e.b;
     Edge {
-        a: point_at(e, m.u),
-        b,
+        a: point_at(e, u),
+        b: e.b,
     }
 }

@@ -1,7 +1,7 @@
 // The first pass over a list of lines: whether its parts are kept, and where the path starts.
 ghost use Rattle.std.specs.Prelude.{◌≡◌, cond, ◌+◌, ◌-◌, ◌*◌, ◌≤◌, length};
 ghost use Rattle.clip.specs.Passes.{marks_of, comes_in, first_pass_of};
-ghost use Rattle.clip.specs.Lent.{line_at, line_in, lines_from};
+ghost use Rattle.clip.specs.Lent.{room_of, line_at, line_in, lines_from};
 
 use crate::{FirstPass, HalfPlane, Marks, parts};
 use boundary::{Edge, Point};
@@ -43,26 +43,29 @@ fn marks_at(w: &[f64], o: usize, s: HalfPlane) -> Marks
 fn comes_in(before: bool, m: Marks) -> bool
     ensures { result ≡ comes_in before m }
 {
-    (m.startKept & !before) | (m.endKept & !m.startKept)
+    (m.start_kept & !before) | (m.end_kept & !m.start_kept)
 }
 
-// Looks at the n lines that stand from `from` on; the last is the one before the first. Where no line
+// Looks at the lines; the last is the one before the first. Where no line
 // comes in, all parts are marked as the last one is.
-pub fn first_pass(w: &[f64], from: usize, n: usize, s: HalfPlane) -> FirstPass
-    requires { (1 ≤ n) × (from + 4 * n ≤ length w.now) }
-    ensures { (result ≡ first_pass_of s (line_in w.now from (n - 1)) (lines_from w.now from 0 n)) × (result.start ≤ n) }
+pub fn first_pass(lines: &[f64], s: HalfPlane) -> FirstPass
+    requires { 1 ≤ room_of lines.now }
+    ensures { result ≡ first_pass_of s (line_in lines.now 0 (room_of lines.now - 1)) (lines_from lines.now 0 0 (room_of lines.now)) }
 {
-    let last = marks_at(w, from + 4 * (n - 1), s);
-    let kept = last.endKept;
+    let n = lines.len() / 4;
+    let last = marks_at(lines, 4 * (n - 1), s);
+    let kept = last.end_kept;
     let mut before = kept;
-    let mut i = 0;
-    while i < n {
-        let m = marks_at(w, from + 4 * i, s);
+    for i in 0..n {
+        let m = marks_at(lines, 4 * i, s);
         if comes_in(before, m) {
-            return FirstPass { kept, start: i };
+            return FirstPass::StartsAt(i);
         }
-        before = m.endKept;
-        i += 1;
+        before = m.end_kept;
     }
-    FirstPass { kept, start: n }
+    if kept {
+        FirstPass::AllKept
+    } else {
+        FirstPass::NoneKept
+    }
 }

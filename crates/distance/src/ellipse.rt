@@ -27,8 +27,7 @@ fn halved(c: Curve, a: f64, b: f64) -> f64
     let mut s0 = a;
     let mut s1 = b;
     let mut s = a;
-    let mut i = 0u32;
-    while i < 1100 {
+    for _ in 0..1100u32 {
         s = middle_of(s0, s1);
         if (s == s0) | (s == s1) {
             return s;
@@ -41,7 +40,6 @@ fn halved(c: Curve, a: f64, b: f64) -> f64
         } else {
             return s;
         }
-        i += 1;
     }
     s
 }

@@ -10,7 +10,7 @@ ghost use Rattle.distance.specs.Piece.{piece_near, piece_normal};
 use boundary::{Edge, Near, Point, line};
 
 // A line with its two ends, x then y, or a whole ellipse with its centre and the semi-axes a along x and
-// b along y.
+// b along y. (Document 02 asks for a line of four numbers, and not of an `Edge`.)
 #[derive(Clone, Copy)]
 pub enum Piece {
     Line(f64, f64, f64, f64),

@@ -119,14 +119,12 @@ fn near_vertex(v: &[f64], p: Point) -> usize
     let stride = n / 64 + 8;
     let mut k = 0;
     let mut least = squares_to(vertex_at(v, 0), p);
-    let mut i = stride;
-    while i < n {
+    for i in (stride..n).step_by(stride) {
         let d = squares_to(vertex_at(v, i), p);
         if d < least {
             least = d;
             k = i;
         }
-        i += stride;
     }
     k
 }
@@ -149,10 +147,8 @@ fn edge_near(v: &[f64], x: f64, y: f64) -> FoundEdge
     let n = v.len() / 2;
     let k = near_vertex(v, p);
     let mut best = found(edge_at(v, k), k, p);
-    let mut i = first_turn(k);
-    while i < n {
+    for i in first_turn(k)..n {
         best = nearer_edge(best, edge_at(v, i), i, p);
-        i += 1;
     }
     best
 }

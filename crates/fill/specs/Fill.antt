@@ -1,5 +1,5 @@
 -- The fill of a cell: boundary.rs's `fill` for lines. The list is clipped at low x, high x, low y and high y, in this order, and `x_dy` summed. Definitions only.
-use Rattle.std.specs.Prelude.{Bool, true, false, ◌||◌, List, ℕ, ltb, length, Float}
+use Rattle.std.specs.Prelude.{Bool, true, false, cond, ◌||◌, List, ℕ, ltb, length, Float}
 use Rattle.std.specs.Float.{binary64}
 use Rattle.std.specs.Float.Ieee.{add, sub, mul, div}
 use Rattle.boundary.specs.declared.Edge.{Edge}
@@ -10,6 +10,10 @@ use Rattle.boundary.specs.declared.Bounds.{Bounds}
 use Rattle.accept.specs.Area.{two}
 
 -- ---- the four clipped lists
+-- the half-plane of one side of a cell: of y or else of x, above the low bound or else below the high one
+abbrev pub side_of : Bool → Bool → Bounds → HalfPlane
+side_of y above c = let p = cond above c.min c.max in record { y = y; above = above; v = cond y p.y p.x }
+
 abbrev pub low_x_of : Bounds → HalfPlane
 low_x_of c = record { y = false; above = true; v = c.min.x }
 

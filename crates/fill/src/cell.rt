@@ -5,9 +5,9 @@ ghost use Rattle.lists.specs.Lists.{total};
 ghost use Rattle.boundary.specs.Outline.{count, edges};
 ghost use Rattle.accept.specs.declared.Refusal.TheVariants.{LongList};
 ghost use Rattle.clip.specs.Clip.{clip_of};
-ghost use Rattle.clip.specs.Lent.{lines_from, Stage};
+ghost use Rattle.clip.specs.Lent.{room_of, lines_from, Stage};
 ghost use Rattle.clip.specs.Shortened.{Shortened, StripOf};
-ghost use Rattle.fill.specs.Fill.{low_x_of, high_x_of, low_y_of, high_y_of, clip1, clip2, longer, xdy_of};
+ghost use Rattle.fill.specs.Fill.{side_of, low_x_of, high_x_of, low_y_of, high_y_of, clip1, clip2, longer, xdy_of};
 ghost use Rattle.number.specs.Exact.{Doubles};
 ghost use Rattle.boundary.specs.Boxes.{DoubleBox};
 ghost use Rattle.accept.specs.Refusals.{all_passed};
@@ -17,25 +17,17 @@ use crate::{lines, within};
 use accept::Refusal;
 use boundary::{Bounds, Edge};
 use clip::{HalfPlane, Stored};
+use number::signs::pick;
 
-// The cell's bounds of x.
-fn low_x(c: Bounds) -> HalfPlane
-    ensures { result ≡ low_x_of c }
+// The half-plane of one side of the cell: of y or else of x, above the low bound or else below the high one.
+fn side(c: Bounds, y: bool, above: bool) -> HalfPlane
+    ensures { result ≡ side_of y above c }
 {
+    let p = if above { c.min } else { c.max };
     HalfPlane {
-        y: false,
-        above: true,
-        v: c.min.x,
-    }
-}
-
-fn high_x(c: Bounds) -> HalfPlane
-    ensures { result ≡ high_x_of c }
-{
-    HalfPlane {
-        y: false,
-        above: false,
-        v: c.max.x,
+        y,
+        above,
+        v: pick(y, p.y, p.x),
     }
 }
 
@@ -63,12 +55,12 @@ fn clip_x(w: &mut [f64], half: usize, n: usize, beyond: usize, c: Bounds) -> Sto
     ensures { (length w.new ≡ length w.old) × (drop (8 * half) w.new ≡ drop (8 * half) w.old)
         × ((es : List Edge) → Shortened (low_x_of c) (high_x_of c) beyond es (lines_from w.old 0 0 n) → Stage half w.new result (longer half (clip1 es c) || longer half (clip2 es c)) (clip2 es c)) }
 {
-    let first = clip::halves::clip(w, half, Stored { second: false, n }, low_x(c));
+    let first = clip::halves::clip(w, half, Stored { second: false, n }, side(c, false, true));
     let a = counted(half, first, beyond);
     if a.n == 0 {
         return a;
     }
-    clip::halves::clip(w, half, a, high_x(c))
+    clip::halves::clip(w, half, a, side(c, false, false))
 }
 
 // Those at low y and high y.
@@ -81,18 +73,8 @@ fn clip_y(w: &mut [f64], half: usize, b: Stored, c: Bounds) -> Stored
     if b.n == 0 {
         return b;
     }
-    let low_y = HalfPlane {
-        y: true,
-        above: true,
-        v: c.min.y,
-    };
-    let d = clip::halves::clip(w, half, b, low_y);
-    let high_y = HalfPlane {
-        y: true,
-        above: false,
-        v: c.max.y,
-    };
-    clip::halves::clip(w, half, d, high_y)
+    let d = clip::halves::clip(w, half, b, side(c, true, true));
+    clip::halves::clip(w, half, d, side(c, true, false))
 }
 
 // The integral of x dy along a line.
@@ -102,16 +84,13 @@ fn x_dy(e: Edge) -> f64
     (e.a.x + e.b.x) / 2.0 * (e.b.y - e.a.y)
 }
 
-// The sum of x dy over the n lines that stand from `from` on.
-fn sum(w: &[f64], from: usize, n: usize) -> f64
-    requires { from + 4 * n ≤ length w.now }
-    ensures { result ≡ total xdy_of (lines_from w.now from 0 n) }
+// The sum of x dy over lines.
+fn sum(lines: &[f64]) -> f64
+    ensures { result ≡ total xdy_of (lines_from lines.now 0 0 (room_of lines.now)) }
 {
     let mut sum = 0.0;
-    let mut i = 0;
-    while i < n {
-        sum = sum + x_dy(clip::scan::line_at(w, from + 4 * i));
-        i += 1;
+    for i in 0..lines.len() / 4 {
+        sum += x_dy(clip::scan::line_at(lines, 4 * i));
     }
     sum
 }
@@ -125,12 +104,10 @@ fn sum_own(v: &[f64]) -> f64
     let first = boundary::vertex_at(v, 0);
     let mut area = 0.0;
     let mut a = first;
-    let mut i = 0;
-    while i + 1 < n {
-        let b = boundary::vertex_at(v, i + 1);
-        area = area + x_dy(Edge { a, b });
+    for i in 1..n {
+        let b = boundary::vertex_at(v, i);
+        area += x_dy(Edge { a, b });
         a = b;
-        i += 1;
     }
     area + x_dy(Edge { a, b: first })
 }
@@ -144,8 +121,8 @@ fn summed(w: &[f64], half: usize, c: Stored) -> Result<f64, Refusal>
     if half < n {
         return Err(Refusal::LongList);
     }
-    let second = c.second;
-    Ok(sum(w, clip::halves::place(half, second), n))
+    let from = clip::halves::place(half, c.second);
+    Ok(sum(&w[from..from + 4 * n]))
 }
 
 // The fill by the four clips, in halves of `half` pieces.
@@ -154,7 +131,8 @@ fn clipped(v: &[f64], c: Bounds, w: &mut [f64], half: usize) -> Result<f64, Refu
     ensures { (result ≡ filled half (edges v.now) c) × (length w.new ≡ length w.old)
         × (drop (8 * half) w.new ≡ drop (8 * half) w.old) }
 {
-    let k = lines::write_chords(v, low_x(c), high_x(c), w);
+    let low = side(c, false, true);
+    let k = lines::write_chords(v, low, side(c, false, false), &mut w[..4 * half]);
     let b = clip_x(w, half, k.n, k.beyond, c);
     let last = clip_y(w, half, b, c);
     summed(w, half, last)

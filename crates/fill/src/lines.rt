@@ -1,9 +1,9 @@
 // The lines that are clipped: the outline's edges, but for those between vertices that stand outside one bound
 // of x without a break, which are drawn as one line. The first two clips give the same of it.
-ghost use Rattle.std.specs.Prelude.{◌≡◌, false, ℕ, ◌*◌, ◌<◌, ◌≤◌, length};
+ghost use Rattle.std.specs.Prelude.{◌≡◌, false, ℕ, ◌<◌, ◌≤◌};
 ghost use Rattle.boundary.specs.Outline.{count, vertex_at, edges};
 ghost use Rattle.clip.specs.Clip.{in_half_plane};
-ghost use Rattle.clip.specs.Lent.{lines_from, Beside};
+ghost use Rattle.clip.specs.Lent.{room_of, lines_from};
 ghost use Rattle.clip.specs.Shortened.{Shortened, StripOf, Drawn};
 
 use crate::{Chord, Written};
@@ -20,14 +20,12 @@ fn outside_end(v: &[f64], i: usize, s: HalfPlane) -> usize
         return i;
     }
     let n = v.len() / 2;
-    let mut j = i;
-    while j + 1 < n {
-        if in_half_plane(s, vertex_at(v, j + 1)) {
-            return j;
+    for j in i + 1..n {
+        if in_half_plane(s, vertex_at(v, j)) {
+            return j - 1;
         }
-        j += 1;
     }
-    j
+    n - 1
 }
 
 // The chord from vertex i on: over vertices outside a bound, or else the edge.
@@ -52,11 +50,11 @@ fn chord(v: &[f64], i: usize, low: HalfPlane, high: HalfPlane) -> Chord
     }
 }
 
-// Writes the chords to the front of w.
-pub fn write_chords(v: &[f64], low: HalfPlane, high: HalfPlane, w: &mut [f64]) -> Written
-    requires { (4 * count v.now ≤ length w.old) × StripOf low high v.now }
-    ensures { (result.n ≤ count v.now) × (result.beyond ≤ count v.now) × Beside 0 (4 * count v.now) w.old w.new
-        × Shortened low high result.beyond (edges v.now) (lines_from w.new 0 0 result.n) }
+// Writes the chords to the front of a list. The loop is no `for`: a chord may go on by many vertices.
+pub fn write_chords(v: &[f64], low: HalfPlane, high: HalfPlane, out: &mut [f64]) -> Written
+    requires { (count v.now ≤ room_of out.old) × StripOf low high v.now }
+    ensures { (result.n ≤ count v.now) × (result.beyond ≤ count v.now)
+        × Shortened low high result.beyond (edges v.now) (lines_from out.new 0 0 result.n) }
 {
     let n = v.len() / 2;
     let mut at = 0;
@@ -69,8 +67,8 @@ pub fn write_chords(v: &[f64], low: HalfPlane, high: HalfPlane, w: &mut [f64]) -
             a: vertex_at(v, i),
             b: vertex_at(v, next(to - 1, n)),
         };
-        at = clip::path::emit(w, 0, n, at, e, true);
-        beyond = beyond + c.beyond;
+        at = clip::path::emit(out, at, e, true);
+        beyond += c.beyond;
         i = to;
     }
     Written { n: at, beyond }

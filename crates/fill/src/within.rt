@@ -21,10 +21,8 @@ fn row_within(v: &[f64], c: Bounds, i: usize) -> bool
     ensures { result ≡ true → (j : ℕ) → j < 8 → Inside (vertex_at v.now (i + j)) c }
 {
     let mut all = true;
-    let mut j = 0;
-    while j < 8 {
-        all = all & vertex_within(v, c, i + j);
-        j += 1;
+    for j in 0..8 {
+        all &= vertex_within(v, c, i + j);
     }
     all
 }
@@ -33,15 +31,13 @@ fn row_within(v: &[f64], c: Bounds, i: usize) -> bool
 fn rows_within(v: &[f64], c: Bounds) -> usize
     ensures { (result ≤ count v.now) × ((i : ℕ) → i < result → Inside (vertex_at v.now i) c) }
 {
-    let n = v.len() / 2;
-    let mut i = 0;
-    while 8 <= n - i {
-        if !row_within(v, c, i) {
-            return i;
+    let rows = v.len() / 16;
+    for row in 0..rows {
+        if !row_within(v, c, 8 * row) {
+            return 8 * row;
         }
-        i += 8;
     }
-    i
+    8 * rows
 }
 
 // Whether all are.
@@ -49,12 +45,10 @@ pub fn is_within(v: &[f64], c: Bounds) -> bool
     ensures { result ≡ true → WithinCell v.now c }
 {
     let n = v.len() / 2;
-    let mut i = rows_within(v, c);
-    while i < n {
+    for i in rows_within(v, c)..n {
         if !vertex_within(v, c, i) {
             return false;
         }
-        i += 1;
     }
     true
 }

@@ -3,8 +3,7 @@ use Rattle.std.proofs.Common.{Ok, Err}
 use mathlib.Core.Path.{◌≡◌, refl, sym, ap, subst, ◌∙◌}
 use mathlib.Core.Bool.{Bool, true, false, not, ◌||◌, true≢false}
 use mathlib.Core.List.{List, [], ◌∷◌, ◌++◌, flat_map}
-use Prim.Native.Nat.{ℕ, ◌+◌, ◌-◌, ◌*◌, ◌%◌, ◌≤◌}
-use native.Mathlib.Nat.{sub-zero}
+use Prim.Native.Nat.{ℕ, ◌+◌, ◌*◌, ◌%◌, ◌≤◌}
 use native.Mathlib.Omega.{arith}
 use lib.Dec.{leb, eqb, ltb}
 use lib.ListN.{length, take, drop, length-replicate}
@@ -37,8 +36,8 @@ use Rattle.lists.proofs.FrontLaws.{front_front}
 use Rattle.lists.proofs.FoldLaws.{or_none}
 
 -- the first k of a list that begins with F
-pub front_of : {A : Type 0} (s₀ s F : List A) (k : ℕ) → s ≡ sets s₀ 0 F → length F ≡ k → k ≤ length s₀ → take (k - 0) (drop 0 s) ≡ F
-front_of s₀ s F k e l h = rw (e, sets_front s₀ F (omega arith), sub-zero k) (take_at F (drop (length F) s₀) k l)
+pub front_of : {A : Type 0} (s₀ s F : List A) (k : ℕ) → s ≡ sets s₀ 0 F → length F ≡ k → k ≤ length s₀ → take k s ≡ F
+front_of s₀ s F k e l h = rw (e, sets_front s₀ F (omega arith)) (take_at F (drop (length F) s₀) k l)
 
 pub numbers_ascend : (is₀ is₁ : List ℕ) (n : ℕ) → n ≤ length is₀ → is₁ ≡ run (λ i. i) 0 (length (take n is₀)) → Sorted leb (take n (is₁ ++ drop n is₀))
 numbers_ascend is₀ is₁ n h e =
@@ -81,7 +80,7 @@ module _ (v : List Float) where
       (e_w : W ≡ sets W₀ 0 (flat_map box_numbers (run (wide_at v) 0 n))) (eX : X ≡ sets X₀ 0 (run (λ i. (centre_of (wide_at v i)).x) 0 n)) (eY : Y ≡ sets Y₀ 0 (run (λ i. (centre_of (wide_at v i)).y) 0 n))
       (lW : 4 * n ≤ length W₀) (lX : n ≤ length X₀) (lY : n ≤ length Y₀) where
     -- the tree over what the lists hold is the index
-    held_tree : tree_in (take (4 * n - 0) (drop 0 W)) (take (n - 0) (drop 0 X)) (take (n - 0) (drop 0 Y)) numbers ≡ index_of v
+    held_tree : tree_in (take (4 * n) W) (take n X) (take n Y) numbers ≡ index_of v
     unfolding index_of
     held_tree =
         let b = flat_length box_numbers 4 (λ _. refl) (run (wide_at v) 0 n) in
@@ -93,7 +92,7 @@ module _ (v : List Float) where
 
     pub grown_all : (C C' : List Float) (L L' is₀ is₁ Z : List ℕ) (r : ℕ) → n ≤ 1024 → 2044 ≤ length C → 1022 ≤ length L → 1024 ≤ length is₀
         → is₁ ≡ run (λ i. i) 0 (length (take n is₀))
-        → Grown (tree_in (take (4 * n - 0) (drop 0 W)) (take (n - 0) (drop 0 X)) (take (n - 0) (drop 0 Y)) (take n (is₁ ++ drop n is₀))) 0 0 1 C L r Z C' L'
+        → Grown (tree_in (take (4 * n) W) (take n X) (take n Y) (take n (is₁ ++ drop n is₀))) 0 0 1 C L r Z C' L'
         → record { answer = r; lent = buffer C' L' (Z ++ drop n (is₁ ++ drop n is₀)) } ≡ grown (index_of v) (buffer C L is₀)
     unfolding grown holding at_front nodes_of
     grown_all C C' L L' is₀ is₁ Z r small c l i e g =

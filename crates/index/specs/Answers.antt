@@ -1,5 +1,5 @@
 -- The tests of a box list, in document 01's order, and all that building leaves. Definitions only.
-use Rattle.std.specs.Prelude.{◌≡◌, not, List, ℕ, ◌%◌, ◌*◌, ◌≤◌, eqb, ltb, length, Ok, Float}
+use Rattle.std.specs.Prelude.{◌≡◌, not, List, ℕ, ◌%◌, ◌≤◌, eqb, ltb, length, Ok, Float}
 use Rattle.boundary.specs.Boxes.{box_fits}
 use Rattle.lists.specs.Lists.{any}
 use Rattle.accept.specs.declared.Refusal.TheVariants.{TooMany, BadBox, ShortBuffer}
@@ -27,13 +27,6 @@ pub record Accepted (v : List Float) (c l n : ℕ) : Type 0 where
   pub corners : corner_places ≤ c
   pub links : link_places ≤ l
   pub items : item_places ≤ n
-
--- working lists that are long enough to build over n boxes: for their widened boxes, their centres' coordinates and their numbers
-pub record Workspace (n w x y k : ℕ) : Type 0 where
-  pub wide : 4 * n ≤ w
-  pub xs : n ≤ x
-  pub ys : n ≤ y
-  pub work : n ≤ k
 
 -- ---- building, by what the call is lent: the boxes v, and the index buffer B
 unfoldable pub build_tested : List Float → IndexBuffer → Test

@@ -16,12 +16,9 @@ fn any_unfit(boxes: &[f64]) -> bool
     requires { box_count boxes.now ≤ 1024 }
     ensures { result ≡ any (λ b. not (box_fits b)) (boxes_of boxes.now) }
 {
-    let n = boxes.len() / 4;
     let mut found = false;
-    let mut i = 0;
-    while i < n {
+    for i in 0..boxes.len() / 4 {
         found = found | !box_fits(boxes::box_at(boxes, i));
-        i += 1;
     }
     found
 }

@@ -64,7 +64,7 @@ module _ (v : List Float) (c : Bounds) (B : IndexBuffer) (S : List ℕ) (passed 
   lists_meeting = let M = meeting_of c (index_of v) in rw (counts_meeting, fronts_meeting) (take_at M (drop (length M) S) (length M) refl)
 
   -- as many as it counts
-  counts_listed : (meeting_call v c B S).answer.count ≡ length (listed_by v c B S)
+  counts_listed : (meeting_call v c B S).answer.value ≡ length (listed_by v c B S)
   counts_listed = rw (lists_meeting, counts_meeting)
 
   -- THE RUST'S WALK, which leaves a node whose box shares no point with all below it, lists the same
@@ -101,7 +101,7 @@ module _ (v : List Float) (c d : Bounds) (B E : IndexBuffer) (S U : List ℕ)
   zooming_out_order = rw (lists_meeting v c B S passed, lists_meeting v d E U passes) (meeting_sublist c d inside (index_of v))
 
   -- COUNTED: no fewer
-  pub zooming_out_counts : (meeting_call v c B S).answer.count ≤ (meeting_call v d E U).answer.count
+  pub zooming_out_counts : (meeting_call v c B S).answer.value ≤ (meeting_call v d E U).answer.value
   zooming_out_counts = rw (counts_listed v c B S passed, counts_listed v d E U passes) (sublist_length zooming_out_order)
 
   -- KEPT: every item that the inner cell lists is listed for the outer

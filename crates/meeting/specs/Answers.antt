@@ -44,4 +44,4 @@ meeting_call v c B S = in_fields count_fields (meeting_outcome v c B S)
 
 -- the numbers that a call lists: as many of the first places of its list as it counts, and so none where it is refused
 unfoldable pub listed_by : List Float → Bounds → IndexBuffer → List ℕ → List ℕ
-listed_by v c B S = take (meeting_call v c B S).answer.count (meeting_call v c B S).lent.list
+listed_by v c B S = take (meeting_call v c B S).answer.value (meeting_call v c B S).lent.list

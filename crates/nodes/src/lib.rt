@@ -1,14 +1,15 @@
 // The build, which calls itself on both halves, and puts the nodes where the Rust numbers them.
 #![tactic(auto)]
 
-ghost use Rattle.std.specs.Prelude.{◌≡◌, [], ◌∷◌, ◌*◌, ◌<◌, ◌^◌, leb, length};
+ghost use Rattle.std.specs.Prelude.{◌≡◌, [], ◌∷◌, ◌*◌, ◌<◌, ◌≤◌, ◌^◌, leb, length};
 ghost use Rattle.std.proofs.lemmas.List.Edits.{sets};
 ghost use Rattle.sorts.specs.Sort.{Sorted};
-ghost use Rattle.boxes.specs.BoxLists.{point_in};
+ghost use Rattle.boxes.specs.BoxLists.{box_at, point_in};
 ghost use Rattle.tree.specs.Tree.{arranged, tree_in};
-ghost use Rattle.nodes.specs.Layout.{Room, Settled, Grown};
+ghost use Rattle.nodes.specs.Layout.{item_at, first_at, count_at, Room, Settled, Grown};
 
-use boundary::Point;
+use boundary::{Bounds, Point};
+use boxes::Entries;
 
 // A node: its box, and either its two children, the nodes first and first + 1 (count is 0), or a leaf's
 // items, count of them from first on.
@@ -31,84 +32,111 @@ pub fn put_links(links: &mut [u32], n: usize, first: u32, count: u32)
     lists::put(links, k + 1, count);
 }
 
+// Where a tree goes: where its items begin, the number of its node, and the first number for the nodes below.
+#[derive(Clone, Copy)]
+pub struct Place {
+    pub at: usize,
+    pub node: usize,
+    pub next: usize,
+}
+
 // Puts the node of the tree over list, which ascends, and splits it, unless it is a leaf's.
 fn settle(
-    wide: &[f64],
-    xs: &[f64],
-    ys: &[f64],
+    entries: Entries,
     list: &mut [u32],
     work: &mut [u32],
     corners: &mut [f64],
     links: &mut [u32],
-    at: usize,
-    node: usize,
-    next: usize,
+    place: Place,
 )
-    requires { Sorted leb list.old × Room (length list.old) (length work.old) at node next }
-    ensures { Settled (tree_in wide.now xs.now ys.now list.old) at node next
+    requires { Sorted leb list.old × Room (length list.old) (length work.old) place.at place.node place.next }
+    ensures { Settled (tree_in entries.entry.wide.now entries.entry.xs.now entries.entry.ys.now list.old) place.at place.node place.next
         corners.old links.old corners.new links.new
-        × (list.new ≡ arranged (point_in xs.now ys.now) list.old) }
+        × (list.new ≡ arranged (point_in entries.entry.xs.now entries.entry.ys.now) list.old) }
 {
     let n = list.len();
     if n <= 4 {
-        boxes::put_box(corners, node, tree::hull_of(wide, list));
-        put_links(links, node, at as u32, n as u32);
+        boxes::put_box(corners, place.node, tree::hull_of(entries, list));
+        put_links(links, place.node, place.at as u32, n as u32);
     } else {
-        let b = tree::spans_of(wide, xs, ys, list);
-        let hull = b.hull;
-        let spread = b.spread;
-        boxes::put_box(corners, node, hull);
-        put_links(links, node, next as u32, 0);
-        tree::split(xs, ys, spread, list, work);
+        let spans = tree::spans_of(entries, list);
+        boxes::put_box(corners, place.node, spans.hull);
+        put_links(links, place.node, place.next as u32, 0);
+        tree::split(entries, spans.spread, list, work);
     }
 }
 
-// The tree over the items of list, which ascend, and end in the order of their leaves: its node is `node`, those below
-// are numbered from `next` on, and its items begin at `at`. Gives the first number not used.
+// The tree over the items of list, which ascend, and end in the order of their leaves. Gives the first number not used.
+// The lists that are written to stand one by one: a struct of `&mut` would owe a clause for each in every function.
 pub fn build(
-    wide: &[f64],
-    xs: &[f64],
-    ys: &[f64],
+    entries: Entries,
     list: &mut [u32],
     work: &mut [u32],
     corners: &mut [f64],
     links: &mut [u32],
-    at: usize,
-    node: usize,
-    next: usize,
+    place: Place,
 ) -> usize
-    requires { Sorted leb list.old × Room (length list.old) (length work.old) at node next }
-    ensures { Grown (tree_in wide.now xs.now ys.now list.old) at node next
+    requires { Sorted leb list.old × Room (length list.old) (length work.old) place.at place.node place.next }
+    ensures { Grown (tree_in entries.entry.wide.now entries.entry.xs.now entries.entry.ys.now list.old) place.at place.node place.next
         corners.old links.old result list.new corners.new links.new }
 {
     let n = list.len();
-    settle(wide, xs, ys, list, work, corners, links, at, node, next);
+    settle(entries, list, work, corners, links, place);
     if n <= 4 {
-        return next;
+        return place.next;
     }
     let m = n / 2;
-    let free = build(
-        wide,
-        xs,
-        ys,
-        &mut list[..m],
-        work,
-        corners,
-        links,
-        at,
-        next,
-        next + 2,
-    );
-    build(
-        wide,
-        xs,
-        ys,
-        &mut list[m..],
-        work,
-        corners,
-        links,
-        at + m,
-        next + 1,
-        free,
-    )
+    let first = Place {
+        at: place.at,
+        node: place.next,
+        next: place.next + 2,
+    };
+    let free = build(entries, &mut list[..m], work, corners, links, first);
+    let second = Place {
+        at: place.at + m,
+        node: place.next + 1,
+        next: free,
+    };
+    build(entries, &mut list[m..], work, corners, links, second)
+}
+
+// The lists of an index buffer, to be read; the C interface gives the nodes' corners and their links apart.
+#[derive(Clone, Copy)]
+pub struct IndexView<'a> {
+    pub corners: &'a [f64],
+    pub links: &'a [u32],
+    pub items: &'a [u32],
+}
+
+impl<'a> IndexView<'a> {
+    // The box of the node n.
+    pub fn box_at(&self, n: usize) -> Bounds
+        requires { n ≤ 2 ^ 32 }
+        ensures { result ≡ box_at self.now.corners.now n }
+    {
+        boxes::box_at(self.corners, n)
+    }
+
+    // Its first child, or where a leaf's items begin.
+    pub fn first_at(&self, n: usize) -> u32
+        requires { n ≤ 2 ^ 32 }
+        ensures { result ≡ first_at self.now.links.now n }
+    {
+        lists::at(self.links, 2 * n, 0)
+    }
+
+    // How many items a leaf has; 0 where it is none.
+    pub fn count_at(&self, n: usize) -> u32
+        requires { n ≤ 2 ^ 32 }
+        ensures { result ≡ count_at self.now.links.now n }
+    {
+        lists::at(self.links, 2 * n + 1, 0)
+    }
+
+    // The k-th item.
+    pub fn item_at(&self, k: usize) -> u32
+        ensures { result ≡ item_at self.now.items.now k }
+    {
+        lists::at(self.items, k, 0)
+    }
 }

@@ -1,18 +1,9 @@
 -- The sign bit, and what the functions of `signs` compute by it. Assumes nothing.
-use Rattle.std.proofs.Common.{◌≡◌, ℕ, zero, suc, ◌+◌, ◌*◌, ◌/◌, ◌%◌, ◌^◌, Bool, true, false, cond, not, T, eqb, leb, sym, refl, ap, ◌∙◌, subst}
-use lib.Dec.{eqb_refl}
-use lib.Ieee.{Float, nan, inf, fin, binary64, up, down, unlike, neg, ne, is_nan, fits, odd, of_fields, of_bits, to_bits}
-use lib.Ieee.Bits.{of_bits-to_bits, is_true}
+use Rattle.std.proofs.Common.{◌≡◌, ℕ, zero, suc, ◌+◌, ◌/◌, ◌%◌, ◌^◌, Bool, true, false, cond, not, T, eqb, leb, sym, refl, ap, ◌∙◌, subst}
+use lib.Ieee.{Float, nan, inf, fin, binary64, unlike, neg, is_nan, fits, odd, of_fields, of_bits, to_bits}
+use lib.Ieee.Bits.{of_bits-to_bits}
+use Rattle.std.specs.Float.{float_with_sign}
 use Rattle.number.specs.Signs.{sign_bit, with_sign, abs_of, copysign_of}
-
--- a float differs from itself exactly where it is a NaN
-pub differs_is_nan : (x : Float) → ne x x ≡ is_nan x
-unfolding ne is_nan
-differs_is_nan nan = refl
-differs_is_nan (inf true) = refl
-differs_is_nan (inf false) = refl
-differs_is_nan (fin true m e) = rw (is_true (eqb (m * up e * down e) (m * up e * down e)) (eqb_refl (m * up e * down e)))
-differs_is_nan (fin false m e) = rw (is_true (eqb (m * up e * down e) (m * up e * down e)) (eqb_refl (m * up e * down e)))
 
 -- ---- the sign bit is the highest of the 64
 sign_odd : (d : ℕ) (s : Bool) (q k l : ℕ) → sign_bit (odd d s q k l) ≡ s
@@ -64,6 +55,13 @@ unlike_false false = refl
 pub abs_negates : (x : Float) → abs_of x ≡ cond (sign_bit x) (neg x) x
 unfolding abs_of
 abs_negates x = with_sign_lem false x ∙ ap (λ (b : Bool). cond b (neg x) x) (unlike_false (sign_bit x))
+
+-- std's magnitude is this one
+pub abs_std : (x : Float) → float_with_sign false x ≡ abs_of x
+unfolding float_with_sign abs_of with_sign
+abs_std nan = refl
+abs_std (inf s) = refl
+abs_std (fin s m e) = refl
 
 pub copysign_negates : (x y : Float) → copysign_of x y ≡ cond (unlike (sign_bit x) (sign_bit y)) (neg x) x
 unfolding copysign_of

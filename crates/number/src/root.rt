@@ -6,7 +6,6 @@ ghost use Rattle.number.specs.Hypot.{hypot_of, square_least, square_end, clearly
 ghost use Rattle.number.specs.Signs.{abs_of};
 
 use crate::signs::{abs, pick};
-use std::num::wrapping_sub_u64;
 
 // 2^-511 and 2^512.
 const SQUARE_LEAST: f64 = 1.4916681462400413e-154;
@@ -36,7 +35,7 @@ fn square(q: u64) -> Wide
     let m = 2 * (a * b) + bb / 0x400_0000;
     let hi = a * a + m / 0x400_0000;
     let lo = m % 0x400_0000 * 0x400_0000 + bb % 0x400_0000;
-    Wide { hi: hi, lo: lo }
+    Wide { hi, lo }
 }
 
 // Whether q's square is below c * 2^52 + q: whether the root is above q - 1/2.
@@ -57,9 +56,9 @@ fn is_root(c: u64, q: u64) -> bool
 {
     let a = q / 0x400_0000;
     let b = q % 0x400_0000;
-    let e = wrapping_sub_u64(c, a * a);
+    let e = c.wrapping_sub(a * a);
     if e < 0x10_0000_0000 {
-        let f = wrapping_sub_u64(e * 0x400_0000 + 0x4000_0000, 2 * (a * b));
+        let f = (e * 0x400_0000 + 0x4000_0000).wrapping_sub(2 * (a * b));
         if f < 0x8000_0000 {
             let m = f * 0x400_0000 + q;
             let n = b * b + 0x100_0000_0000_0000;
@@ -99,7 +98,7 @@ fn guess(i: u64) -> f64
     let y2 = 1.50000057967625766 * y1 - h * y1 * (y1 * y1);
     let s = z * y2;
     if s > 0.0 {
-        let b = f64::to_bits(s);
+        let b = s.to_bits();
         let u = f64::from_bits(b - b % 0x800_0000);
         let k = 0.5 * y2;
         let d = z - u * u;
@@ -147,7 +146,7 @@ fn root_of(c: u64, w: u64, i: u64) -> f64
     let d = c * (1 + w % 2);
     let g = guess(i);
     if g > 0.0 {
-        let r = f64::to_bits(g);
+        let r = g.to_bits();
         let q = r % 0x10_0000_0000_0000 + 0x10_0000_0000_0000;
         if r / 0x10_0000_0000_0000 == w / 2 + 475 {
             if is_root(d, q) {
@@ -164,12 +163,12 @@ pub fn sqrt(x: f64) -> f64
     ensures { result ≡ sqrt_of x }
 {
     if x > 0.0 {
-        if x < 1.0 / 0.0 {
-            let b = f64::to_bits(x);
+        if x < f64::INFINITY {
+            let b = x.to_bits();
             let e = b / 0x10_0000_0000_0000;
             let t = b % 0x10_0000_0000_0000;
             if e == 0 {
-                let l = (u64::leading_zeros(t) - 11) as u64;
+                let l = u64::from(t.leading_zeros() - 11);
                 let c = t << l;
                 let i = (1022 + l % 2) * 0x10_0000_0000_0000 + c;
                 return root_of(c, 74 - l, i);
@@ -178,7 +177,7 @@ pub fn sqrt(x: f64) -> f64
         }
         return x;
     }
-    pick(x == 0.0, x, 0.0 / 0.0)
+    pick(x == 0.0, x, f64::NAN)
 }
 
 // Whether the square of x neither underflows nor overflows.

@@ -1,4 +1,5 @@
-// Signs, magnitudes and choices between floats, by IEEE 754.
+// Signs, magnitudes and choices between floats, by IEEE 754. Where std's methods of these names don't promise as
+// much, the functions stand here.
 ghost use Rattle.std.specs.Prelude.{◌≡◌, if◌then◌else◌, is_nan};
 ghost use Rattle.number.specs.Signs.{sign_bit, abs_of, copysign_of, stands_before, min_of, max_of, clamp_of};
 
@@ -9,28 +10,31 @@ pub fn pick(c: bool, a: f64, b: f64) -> f64
     if c { a } else { b }
 }
 
+// Whether x is a NaN.
 pub fn is_nan(x: f64) -> bool
     ensures { result ≡ is_nan x }
 {
-    x != x
+    x.is_nan()
 }
 
-// Whether x has its sign bit set; a NaN counts as not.
+// Whether x has its sign bit set; a NaN counts as not, where std's `is_sign_negative` asks for none.
 pub fn sign_bit(x: f64) -> bool
     ensures { result ≡ sign_bit x }
 {
-    if is_nan(x) {
+    if x.is_nan() {
         return false;
     }
-    0x8000_0000_0000_0000 <= f64::to_bits(x)
+    0x8000_0000_0000_0000 <= x.to_bits()
 }
 
+// The magnitude of x.
 pub fn abs(x: f64) -> f64
     ensures { result ≡ abs_of x }
 {
-    pick(sign_bit(x), -x, x)
+    x.abs()
 }
 
+// The magnitude of x with the sign of y, which may be a NaN: std's `copysign` asks for none.
 pub fn copysign(x: f64, y: f64) -> f64
     ensures { result ≡ copysign_of x y }
 {
@@ -44,18 +48,21 @@ fn is_before(a: f64, b: f64) -> bool
     (a < b) | ((a == b) & sign_bit(a))
 }
 
+// The lesser of two, -0 below +0, and a number before a NaN; std's `min` leaves open which of two zeros it gives.
 pub fn min(a: f64, b: f64) -> f64
     ensures { result ≡ min_of a b }
 {
-    pick(is_nan(a), b, pick(is_nan(b) | is_before(a, b), a, b))
+    pick(a.is_nan(), b, pick(b.is_nan() | is_before(a, b), a, b))
 }
 
+// The greater of two, in the same way.
 pub fn max(a: f64, b: f64) -> f64
     ensures { result ≡ max_of a b }
 {
-    pick(is_nan(a), b, pick(is_nan(b) | is_before(b, a), a, b))
+    pick(a.is_nan(), b, pick(b.is_nan() | is_before(b, a), a, b))
 }
 
+// x, or the bound that it is past; lo may be above hi, which std's `clamp` does not take.
 pub fn clamp(x: f64, lo: f64, hi: f64) -> f64
     ensures { result ≡ clamp_of x lo hi }
 {

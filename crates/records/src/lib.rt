@@ -12,32 +12,29 @@ ghost use Rattle.records.specs.Records.{node_in, nodes_tested, recorded, records
 use accept::Refusal;
 use accept::refusals::refuse_when;
 use index::{TreeSize, building, refusals};
-use nodes::Node;
+use nodes::{IndexView, Node};
 
 // Node i of an index buffer.
-fn node_in(corners: &[f64], links: &[u32], i: usize) -> Node
+fn node_in(view: &IndexView, i: usize) -> Node
     requires { i < 2 ^ 32 }
-    ensures { result ≡ node_in corners.now links.now i }
+    ensures { result ≡ node_in view.now.corners.now view.now.links.now i }
 {
-    let b = boxes::box_at(corners, i);
-    let lo = b.min;
-    let hi = b.max;
-    let k = 2 * i;
+    let b = view.box_at(i);
     Node {
-        lo,
-        hi,
-        first: lists::at(links, k, 0),
-        count: lists::at(links, k + 1, 0),
+        lo: b.min,
+        hi: b.max,
+        first: view.first_at(i),
+        count: view.count_at(i),
     }
 }
 
 // Puts the first n nodes of an index buffer to the front of a lent list.
-fn put_nodes(corners: &[f64], links: &[u32], n: usize, nodes: &mut [Node])
+fn put_nodes(view: &IndexView, n: usize, nodes: &mut [Node])
     requires { (n ≤ 511) × (n ≤ length nodes.old) }
-    ensures { nodes.new ≡ at_front (run (node_in corners.now links.now) 0 n) nodes.old }
+    ensures { nodes.new ≡ at_front (run (node_in view.now.corners.now view.now.links.now) 0 n) nodes.old }
 {
     for i in 0..n {
-        nodes[i] = node_in(corners, links, i);
+        nodes[i] = node_in(view, i);
     }
 }
 
@@ -51,7 +48,12 @@ fn record(boxes: &[f64], nodes: &mut [Node], items: &mut [u32]) -> usize
     let mut corners = [0.0; 2044];
     let mut links = [0; 1022];
     let count = building::grow(boxes, &mut corners, &mut links, items);
-    put_nodes(&corners, &links, count, nodes);
+    let view = IndexView {
+        corners: &corners,
+        links: &links,
+        items,
+    };
+    put_nodes(&view, count, nodes);
     count
 }
 

@@ -77,7 +77,7 @@ module _ (v : List Float) (cs : List ℕ) where
   boxes_size = boxes_length (outlines_of v cs) ∙ ap (λ (n : ℕ). 4 * n) (outlines_length v cs)
 
   -- the front of a list that they are put into
-  pub boxes_front : (X₀ X : List Float) → 4 * length cs ≤ length X₀ → X ≡ sets X₀ 0 (set_boxes (outlines_of v cs)) → take (4 * length cs - 0) (drop 0 X) ≡ set_boxes (outlines_of v cs)
+  pub boxes_front : (X₀ X : List Float) → 4 * length cs ≤ length X₀ → X ≡ sets X₀ 0 (set_boxes (outlines_of v cs)) → take (4 * length cs) X ≡ set_boxes (outlines_of v cs)
   boxes_front X₀ X room e = front_of X₀ X (set_boxes (outlines_of v cs)) (4 * length cs) e boxes_size room
 
   -- and every place there

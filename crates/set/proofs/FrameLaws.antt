@@ -24,7 +24,7 @@ module _ (v : List Float) (cs : List ℕ) (B : IndexBuffer) where
 
   -- what is built over the boxes, put at the front of X, is the set's index
   pub grown_set : (X₀ X : List Float) → 4 * length cs ≤ length X₀ → X ≡ sets X₀ 0 (set_boxes os) → (k : ℕ) (D : IndexBuffer)
-      → record { answer = k; lent = D } ≡ grown (index_of (take (4 * length cs - 0) (drop 0 X))) B → D ≡ holding set_tree B
+      → record { answer = k; lent = D } ≡ grown (index_of (take (4 * length cs) X)) B → D ≡ holding set_tree B
   grown_set X₀ X room e k D g = grown_lent set_tree B (rw (boxes_front v cs X₀ X room e) at g)
 
   module _ (ready : Ready v cs B) (D : IndexBuffer) (held : D ≡ holding set_tree B) where

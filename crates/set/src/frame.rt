@@ -23,31 +23,27 @@ pub fn index_in(
 {
     let n = 4 * counts.len();
     put_boxes(v, counts, boxes);
-    let b = &boxes[..];
-    index::building::grow_or_leaf(&b[0..n], corners, links, items);
+    index::building::grow_or_leaf(&boxes[..n], corners, links, items);
 }
 
-// The same, with its own space for them: of at most 32 outlines, and of any set. The space is as large as
-// is needed, since it is filled with zeros first.
-fn index_few(v: &[f64], counts: &[u32], corners: &mut [f64], links: &mut [u32], items: &mut [u32])
-    requires { Ready v.now counts.now (buffer corners.old links.old items.old) × (length counts.now ≤ 32) }
+// The same, with its own space for N numbers of the boxes.
+fn index_within<const N: usize>(
+    v: &[f64],
+    counts: &[u32],
+    corners: &mut [f64],
+    links: &mut [u32],
+    items: &mut [u32],
+)
+    requires { Ready v.now counts.now (buffer corners.old links.old items.old) × (4 * length counts.now ≤ N) × (N ≤ 4096) }
     ensures { buffer corners.new links.new items.new
         ≡ holding (index_of (set_boxes (outlines_of v.now counts.now))) (buffer corners.old links.old items.old) }
 {
-    let mut boxes = [0.0; 128];
+    let mut boxes = [0.0; N];
     index_in(v, counts, &mut boxes, corners, links, items);
 }
 
-fn index_many(v: &[f64], counts: &[u32], corners: &mut [f64], links: &mut [u32], items: &mut [u32])
-    requires { Ready v.now counts.now (buffer corners.old links.old items.old) }
-    ensures { buffer corners.new links.new items.new
-        ≡ holding (index_of (set_boxes (outlines_of v.now counts.now))) (buffer corners.old links.old items.old) }
-{
-    let mut boxes = [0.0; 4096];
-    index_in(v, counts, &mut boxes, corners, links, items);
-}
-
-// The index of the set's outlines, in the lent index buffer.
+// The index of the set's outlines, in the lent index buffer. The space for the boxes is as large as is needed, since
+// it is filled with zeros first.
 pub fn index_set(
     v: &[f64],
     counts: &[u32],
@@ -60,8 +56,8 @@ pub fn index_set(
         ≡ holding (index_of (set_boxes (outlines_of v.now counts.now))) (buffer corners.old links.old items.old) }
 {
     if counts.len() <= 32 {
-        index_few(v, counts, corners, links, items);
+        index_within::<128>(v, counts, corners, links, items);
     } else {
-        index_many(v, counts, corners, links, items);
+        index_within::<4096>(v, counts, corners, links, items);
     }
 }

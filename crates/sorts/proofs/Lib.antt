@@ -1,6 +1,6 @@
 -- Laws of the sort.
 
--- Merging two sorted lists sorts them together.
+-- A slice's first m, and then the rest, changed in place.
 pub mod Lists
 -- The order by key and then by number is total and transitive.
 pub mod Order
@@ -10,3 +10,5 @@ pub mod SortLaws
 pub mod PartLaws
 -- The parts that a selection leaves are, as sets, the halves by the sort.
 pub mod SelectLaws
+-- What std's sorts leave.
+pub mod StdSorts

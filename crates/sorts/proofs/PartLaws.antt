@@ -3,7 +3,6 @@ use mathlib.Core.Path.{◌≡◌, refl, sym, ap, ap₂, ◌∙◌}
 use mathlib.Core.Bool.{Bool, true, false, not, cond, false≢true}
 use mathlib.Core.List.{List, [], ◌∷◌, ◌++◌, append-nil}
 use Prim.Native.Nat.{ℕ, zero, suc, ◌+◌, ◌-◌, ◌≤◌, ◌<◌}
-use native.Mathlib.Nat.{sub-zero}
 use native.Mathlib.Numerals.{add-one}
 use native.Mathlib.Omega.{arith}
 use lib.Dec.{leb}
@@ -14,7 +13,8 @@ use borrow.Author.Tests.{le-leb, leb-true, leb-false}
 use Rattle.lists.specs.Lists.{Every, run}
 use Rattle.lists.proofs.MemberLaws.{each_all}
 use Rattle.sorts.specs.Sort.{insert, sort, keep, others, Dealt, Sorted, halves}
-use Rattle.sorts.specs.Keys.{precedes_by, precedes, ahead, ahead_bit}
+use Rattle.std.specs.Int.{from_bool}
+use Rattle.sorts.specs.Keys.{precedes_by, precedes, ahead}
 use Rattle.sorts.proofs.Lists.{rest_of, whole_of}
 use Rattle.sorts.proofs.SortLaws.{length_sort}
 use Rattle.sorts.proofs.Order.{goes_total, goes_trans, goes_antisym, ahead_precedes}
@@ -108,14 +108,6 @@ keep_last p (x ∷ xs) y = go (p x) (keep_last p xs y)
     go true ih = ap (λ (l : List ℕ). x ∷ l) ih
     go false ih = ih
 
-pub ahead_le : (v k : Float) (t x : ℕ) → ahead_bit v k t x ≤ 1
-unfolding ahead_bit
-ahead_le v k t x = go (precedes_by v k t x)
-  where
-    go : (b : Bool) → cond b 0 1 ≤ 1
-    go true = omega arith
-    go false = omega arith
-
 pub dealt_none : (p : ℕ → Bool) (s t : List ℕ) → Dealt p s t s t 0 0
 unfolding keep
 dealt_none p s t = record { within = omega arith; fewer = omega arith; long = refl; room = refl; passed = refl; failed = refl; ahead = refl }
@@ -164,9 +156,12 @@ module _ (p : ℕ → Bool) (s₀ t₀ s t : List ℕ) (a i y : ℕ) (d : Dealt 
       }
 
 pub dealt_next : (key : ℕ → Float) (v : Float) (x : ℕ) (s₀ t₀ s t : List ℕ) (a i y : ℕ) → Dealt (ahead key v x) s₀ t₀ s t a i → i < length s → length s₀ ≤ length t₀ → y ≡ get_or s i 0
-    → Dealt (ahead key v x) s₀ t₀ (set s a y) (set t (i - a) y) (a + ahead_bit v (key y) x y) (i + 1)
-unfolding ahead_bit
-dealt_next key v x s₀ t₀ s t a i y d h fit ey = dealt_more (ahead key v x) s₀ t₀ s t a i y d h fit ey (precedes_by v (key y) x y) refl (cond (precedes_by v (key y) x y) 0 1) refl
+    → Dealt (ahead key v x) s₀ t₀ (set s a y) (set t (i - a) y) (a + from_bool (not (precedes_by v (key y) x y))) (i + 1)
+dealt_next key v x s₀ t₀ s t a i y d h fit ey = dealt_more (ahead key v x) s₀ t₀ s t a i y d h fit ey (precedes_by v (key y) x y) refl (from_bool (not (precedes_by v (key y) x y))) (counted (precedes_by v (key y) x y))
+  where
+    counted : (b : Bool) → from_bool (not b) ≡ cond b 0 1
+    counted true = refl
+    counted false = refl
 
 -- all dealt, and the others appended
 pub dealt_all : (p : ℕ → Bool) (s₀ t₀ s t : List ℕ) (a : ℕ) → Dealt p s₀ t₀ s t a (length s₀) → (take a s ≡ keep p s₀) × (take (length s₀ - a) t ≡ others p s₀) × (a ≡ length (keep p s₀))
@@ -177,16 +172,14 @@ dealt_all p s₀ t₀ s t a d =
     (one, d.failed ∙ ap (others p) all, sym (length-take-le a s (omega arith)) ∙ ap length one)
 
 pub parted_is : (p : ℕ → Bool) (s₀ t₀ s t Y : List ℕ) (a : ℕ) → Dealt p s₀ t₀ s t a (length s₀) → length s₀ ≤ length t₀
-    → Y ≡ take (length s₀ - a - 0) (drop 0 t) ++ drop (length (take (length s₀ - a - 0) (drop 0 t))) (take (length s - a) (drop a s))
+    → Y ≡ take (length s₀ - a) t
     → (take a s ++ (Y ++ drop (length s - a) (drop a s)) ≡ keep p s₀ ++ others p s₀) × (a ≡ length (keep p s₀))
 parted_is p s₀ t₀ s t Y a d fit e =
     let q = dealt_all p s₀ t₀ s t a d in
-    let f = d.fewer in let l = d.long in let r = d.room in
+    let f = d.fewer in let l = d.long in
     let k = length-drop a s in
-    let n = length-take-le (length s₀ - a) t (omega arith) in
-    let gone : drop (length (take (length s₀ - a) t)) (take (length s - a) (drop a s)) ≡ [] = drop_of_length-le (take (length s - a) (drop a s)) {i = length (take (length s₀ - a) t)} (let u = length-take-le (length s - a) (drop a s) (omega arith) in omega arith) in
     let past : drop (length s - a) (drop a s) ≡ [] = drop_of_length-le (drop a s) {i = length s - a} (omega arith) in
-    let y : Y ≡ others p s₀ = e ∙ rw (sub-zero (length s₀ - a), gone) (append-nil (take (length s₀ - a) t) ∙ q.1) in
+    let y : Y ≡ others p s₀ = e ∙ q.1 in
     (rw (y, past, q.0) (ap (λ (l : List ℕ). keep p s₀ ++ l) (append-nil (others p s₀))), q.2)
 
 -- ---- a total order

@@ -4,16 +4,10 @@ use mathlib.Core.Bool.{Bool, true, false, cond}
 use mathlib.Core.List.{List, [], ◌∷◌}
 use Prim.Native.Nat.{ℕ, suc, ◌+◌}
 use native.Mathlib.Omega.{arith}
-use lib.Dec.{leb, eqb}
+use lib.Dec.{eqb}
 use lib.ListN.{length}
 use Rattle.lists.specs.Lists.{times}
 use Rattle.sorts.specs.Sort.{insert, sort}
-use Rattle.sorts.specs.Keys.{total_less, precedes_by, precedes, key_in}
-
--- with no keys the order is by number
-pub sort_unkeyed : (xs : List ℕ) → sort (precedes (key_in [])) xs ≡ sort leb xs
-unfolding precedes_by total_less
-sort_unkeyed xs = refl
 
 module _ (le : ℕ → ℕ → Bool) where
   length_insert : (x : ℕ) (ys : List ℕ) → length (insert le x ys) ≡ suc (length ys)

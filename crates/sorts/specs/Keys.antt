@@ -21,11 +21,6 @@ precedes key a b = precedes_by (key a) (key b) a b
 abbrev pub ahead : (ℕ → Float) → Float → ℕ → ℕ → Bool
 ahead key v t x = not (precedes_by v (key x) t x)
 
--- the same as a number, where x has the key k: 1 or 0
-unfoldable pub ahead_bit : Float → Float → ℕ → ℕ → ℕ
-unfolding precedes_by
-ahead_bit v k t x = cond (precedes_by v k t x) 0 1
-
 -- the keys that a list holds, one for each number from 0 on
 abbrev pub key_in : List Float → ℕ → Float
 key_in K i = get_or K i nan

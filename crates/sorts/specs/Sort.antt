@@ -1,5 +1,5 @@
--- The list in order, and two lists merged, under any order of numbers. Definitions only.
-use Rattle.std.specs.Prelude.{◌≡◌, Bool, true, false, not, cond, List, [], ◌∷◌, ◌++◌, ℕ, ◌-◌, ◌≤◌, leb, ltb, length, get_or, take, drop}
+-- The list in order, under any order of numbers. Definitions only.
+use Rattle.std.specs.Prelude.{◌≡◌, Bool, true, not, cond, List, [], ◌∷◌, ◌++◌, ℕ, ◌-◌, ◌≤◌, leb, length, take, drop}
 use Rattle.lists.specs.Lists.{times, Every}
 
 -- x before the first member that it goes before
@@ -12,21 +12,6 @@ unfoldable pub sort : (ℕ → ℕ → Bool) → List ℕ → List ℕ
 unfolding insert
 sort le [] = []
 sort le (x ∷ xs) = insert le x (sort le xs)
-
--- ---- two lists merged: the head that goes before the other first
--- where the first list's head is x and `rest` merges what follows x with a list
-unfoldable pub merge_on : (ℕ → ℕ → Bool) → ℕ → (List ℕ → List ℕ) → List ℕ → List ℕ → List ℕ
-merge_on le x rest all [] = all
-merge_on le x rest all (y ∷ ys) = cond (le x y) (x ∷ rest (y ∷ ys)) (y ∷ merge_on le x rest all ys)
-
-unfoldable pub merge : (ℕ → ℕ → Bool) → List ℕ → List ℕ → List ℕ
-unfolding merge_on
-merge le [] ys = ys
-merge le (x ∷ xs) ys = merge_on le x (λ l. merge le xs l) (x ∷ xs) ys
-
--- whether the next member comes from the first list, which is at i, the second being at j
-unfoldable pub from_first : (ℕ → ℕ → Bool) → List ℕ → ℕ → List ℕ → ℕ → Bool
-from_first le al i bl j = cond (ltb i (length al)) (cond (ltb j (length bl)) (le (get_or al i 0) (get_or bl j 0)) true) false
 
 -- the members that pass a test, and those that do not, in their order
 unfoldable pub keep : (ℕ → Bool) → List ℕ → List ℕ

@@ -1,4 +1,7 @@
 -- `any::any_at` meets its contract. Assumes nothing.
+use Rattle.lists.proofs.BitLaws.{one_or_zero}
+use Rattle.accept.proofs.TestLaws.{handed_on}
+use Prim.Native.Nat.{ℕ}
 use Rattle.std.proofs.Common.{Ok}
 use Rattle.accept.specs.Refusals.{Answer}
 use mathlib.Core.Path.{sym, ap, ◌∙◌}
@@ -10,26 +13,20 @@ use Rattle.any.specs.Answers.{any_outcome}
 use Rattle.any.proofs.any_at.Goals as goal
 
 -- yes is 1, and no is 0
-abbrev told : Bool → Answer
+abbrev told : Bool → Answer ℕ
 told b = Ok (cond b 1 0)
 
-pub any_of-requires : goal.any_of-requires
-any_of-requires c =
-    (query_passed _ _ _ _ (sym c.query_tested-t.ensures ∙ c.in-Passed.is)).ready
+pub any_of-found-requires : goal.any_of-found-requires
+any_of-found-requires c =
+    (query_passed _ _ _ _ (sym c.query_tested.ensures ∙ c.in_ok-query_tested.was)).ready
 
-pub returns-then-any_of : goal.returns-then-any_of
+pub returns : goal.returns
 unfolding any_outcome
-returns-then-any_of c =
-    let m = ap (λ (o : Outcome Bool IndexBuffer). in_fields told o) c.any_of.ensures in
-    (rw c.if-any_of.true at m) ∙ sym (query_worked _ _ _ _ _ _ (sym c.query_tested-t.ensures ∙ c.in-Passed.is))
+returns c =
+    rw (c.from.ensures, one_or_zero) (ap (λ (o : Outcome Bool IndexBuffer). in_fields told o) c.any_of-found.ensures
+    ∙ sym (query_worked _ _ _ _ _ _ (sym c.query_tested.ensures ∙ c.in_ok-query_tested.was)))
 
-pub returns-else-any_of : goal.returns-else-any_of
+pub returns-in_err-query_tested : goal.returns-in_err-query_tested
 unfolding any_outcome
-returns-else-any_of c =
-    let m = ap (λ (o : Outcome Bool IndexBuffer). in_fields told o) c.any_of.ensures in
-    (rw c.if-any_of.false at m) ∙ sym (query_worked _ _ _ _ _ _ (sym c.query_tested-t.ensures ∙ c.in-Passed.is))
-
-pub returns-in-Failed : goal.returns-in-Failed
-unfolding any_outcome
-returns-in-Failed c =
-    sym (query_refused _ _ _ _ _ _ (sym c.query_tested-t.ensures ∙ c.in-Failed.is))
+returns-in_err-query_tested c =
+    rw (handed_on c.from_residual.ensures.1) (sym (query_refused _ _ _ _ _ _ (sym c.query_tested.ensures ∙ c.in_err-query_tested.was)))

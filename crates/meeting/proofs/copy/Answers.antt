@@ -1,33 +1,24 @@
 -- `meeting::copy` meets its contract: the items so far are stored. Assumes nothing.
-use Rattle.meeting.proofs.WalkLaws.{put_within, no_run, next_item}
-use Rattle.nodes.specs.Layout.{item_at}
+use Rattle.std.proofs.Common.{◌≡◌, ◌+◌, ◌-◌, refl, ap, ◌∙◌, arith}
 use Rattle.lists.specs.Lists.{run}
-use native.Mathlib.Nat.{le_antisymm}
-use mathlib.Core.Path.{refl}
-use borrow.Author.Rules.{rules}
+use Rattle.nodes.specs.Layout.{item_at}
+use Rattle.meeting.proofs.WalkLaws.{put_within, no_run, next_item}
 use Rattle.meeting.proofs.copy.Goals as goal
 
 pub loop-i-init : goal.loop-i-init
 unfolding run
 loop-i-init c =
     let p = c.requires.1 in
-    (search rules, p, refl, no_run _ _ p)
-
-pub push-j-requires : goal.push-j-requires
-push-j-requires c = c.loop-i.invariant.1
+    let z : c.args.first - c.args.first ≡ 0 = omega arith in
+    (p, refl, rw z (no_run _ _ p))
 
 pub loop-i-preserved : goal.loop-i-preserved
 loop-i-preserved c =
     let inv = c.loop-i.invariant in
-    let g = item_at c.args.items.now in
+    let same = inv.1 in
+    let g = item_at c.args.view.now.items.now in
+    let a = c.loop-i.auto.i in
+    let e : c.loop-i.i ≡ c.args.first + (c.loop-i.i - c.args.first) = omega arith in
+    let n : c.loop-i.i + 1 - c.args.first ≡ c.loop-i.i - c.args.first + 1 = omega arith in
     let pushed = c.push-j.ensures in
-    let read = c.at.ensures in
-    (search rules, put_within _ _ _ _ _ pushed, search rules, next_item g _ _ _ _ _ _ _ _ _ inv.3 read pushed)
-
-pub shape_of-list : goal.shape_of-list
-shape_of-list c = c.loop-i.invariant.2
-
-pub returns : goal.returns
-returns c =
-    let inv = c.loop-i.invariant in
-    rw (← le_antisymm inv.0 c.loop-i-test.false) inv.3
+    (put_within _ _ _ _ _ pushed, omega arith, rw n (next_item g _ _ _ _ _ _ _ _ _ inv.2 (c.item_at.ensures ∙ ap g e) pushed))

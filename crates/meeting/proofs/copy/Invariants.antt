@@ -9,7 +9,4 @@ use Rattle.meeting.proofs.copy.Given as goal
 
 abbrev pub invariant-loop-i : goal.invariant-loop-i
 invariant-loop-i l =
-    (l.i ≤ l.count) × (l.j ≤ length l.list) × (length l.list ≡ length l.initial.list) × Puts l.initial.list l.k (run (item_at l.items) l.first l.i) l.list l.j
-
-abbrev pub decreases-loop-i : goal.decreases-loop-i
-decreases-loop-i l = l.count - l.i
+    (l.j ≤ length l.list) × (length l.list ≡ length l.initial.list) × Puts l.initial.list l.k (run (item_at l.view.items.now) l.first (l.i - l.first)) l.list l.j

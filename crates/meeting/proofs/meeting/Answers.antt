@@ -1,4 +1,5 @@
 -- `meeting::meeting` meets its contract. Assumes nothing.
+use Rattle.accept.proofs.TestLaws.{handed_on}
 use Rattle.meeting.proofs.MeetingLaws.{length_meeting, listing_count, meeting_accepted, met, meeting_refused}
 use Rattle.meeting.specs.Answers.{meeting_tested}
 use Rattle.index.specs.Buffer.{buffer}
@@ -12,30 +13,31 @@ unfolding meeting_tested
 listed-requires c =
     let a = c.args in
     meeting_accepted a.boxes.now a.c (buffer a.corners.now a.links.now a.items.now) a.list.now
-    c.tested-t.ensures c.in-Passed.is
+    c.tested.ensures c.in_ok-tested.was
 
 pub overflow_cast-result : goal.overflow_cast-result
 unfolding meeting_tested
 overflow_cast-result c =
     let a = c.args in
-    let e = c.in-Passed.is in
+    let e = c.in_ok-tested.was in
     let B = buffer a.corners.now a.links.now a.items.now in
-    let s = (meeting_accepted a.boxes.now a.c B a.list.now c.tested-t.ensures e).0.size in
+    let s = (meeting_accepted a.boxes.now a.c B a.list.now c.tested.ensures e).0.size in
     let n = length_index_items a.boxes.now in
     let m = length_meeting a.c (index_of a.boxes.now) in
     let k = listing_count a.boxes.now a.c B a.list.now c.listed.ensures in
     search rules
 
-pub returns-in-Passed : goal.returns-in-Passed
+pub returns : goal.returns
 unfolding meeting_tested
-returns-in-Passed c =
+returns c =
     let a = c.args in
-    let e = c.in-Passed.is in
-    met a.boxes.now a.c (buffer a.corners.now a.links.now a.items.now) a.list.now c.tested-t.ensures e
+    let e = c.in_ok-tested.was in
+    met a.boxes.now a.c (buffer a.corners.now a.links.now a.items.now) a.list.now c.tested.ensures e
     c.listed.ensures
 
-pub returns-in-Failed : goal.returns-in-Failed
+pub returns-in_err-tested : goal.returns-in_err-tested
 unfolding meeting_tested
-returns-in-Failed c =
+returns-in_err-tested c =
     let a = c.args in
-    meeting_refused a.boxes.now a.c (buffer a.corners.now a.links.now a.items.now) a.list.now c.tested-t.ensures c.in-Failed.is
+    rw (handed_on c.from_residual.ensures.1)
+    (meeting_refused a.boxes.now a.c (buffer a.corners.now a.links.now a.items.now) a.list.now c.tested.ensures c.in_err-tested.was)

@@ -15,7 +15,7 @@ pub returns-then-n-le4 : goal.returns-then-n-le4
 returns-then-n-le4 t c =
     let a = c.args in
     let left = c.settle.ensures in
-    grown_leaf (box_at a.wide.now) (point_in a.xs.now a.ys.now) a.list.now a.at a.node a.next a.corners.now a.links.now _ _ _ left.0 left.1 c.if-n-le4.true
+    grown_leaf (box_at a.entries.wide.now) (point_in a.entries.xs.now a.entries.ys.now) a.list.now a.place.at a.place.node a.place.next a.corners.now a.links.now _ _ _ left.0 left.1 c.if-n-le4.true
 
 pub build-free-requires : goal.build-free-requires
 build-free-requires t c =
@@ -28,7 +28,7 @@ build-free-requires t c =
     let R = c.requires.1 in
     let h = c.if-n-le4.false in
     let l = length-take-le (length is / 2) S (omega arith) in
-    (omega arith, (first_ascends (point_in a.xs.now a.ys.now) is S c.settle.ensures.1 h, record { room = omega arith; items = omega arith; own = omega arith; free = omega arith }))
+    (omega arith, (first_ascends (point_in a.entries.xs.now a.entries.ys.now) is S c.settle.ensures.1 h, record { room = omega arith; items = omega arith; own = omega arith; free = omega arith }))
 
 pub build-requires : goal.build-requires
 build-requires t c =
@@ -46,14 +46,14 @@ build-requires t c =
     let l = length-take-le (length is / 2) S (omega arith) in
     let z = rest_length S Y (length is / 2) (omega arith) y in
     let f = c.build-free.ensures.free in
-    let x = extra_below (box_at a.wide.now) (point_in a.xs.now a.ys.now) (take (length is / 2) S) (omega arith) in
-    (omega arith, (second_ascends (point_in a.xs.now a.ys.now) is S c.settle.ensures.1 h Y y, record { room = omega arith; items = omega arith; own = omega arith; free = omega arith }))
+    let x = extra_below (box_at a.entries.wide.now) (point_in a.entries.xs.now a.entries.ys.now) (take (length is / 2) S) (omega arith) in
+    (omega arith, (second_ascends (point_in a.entries.xs.now a.entries.ys.now) is S c.settle.ensures.1 h Y y, record { room = omega arith; items = omega arith; own = omega arith; free = omega arith }))
 
 pub returns : goal.returns
 returns t c =
     let a = c.args in
     let left = c.settle.ensures in
-    grown_inner (box_at a.wide.now) (point_in a.xs.now a.ys.now) a.list.now a.at a.node a.next a.corners.now a.links.now
+    grown_inner (box_at a.entries.wide.now) (point_in a.entries.xs.now a.entries.ys.now) a.list.now a.place.at a.place.node a.place.next a.corners.now a.links.now
     c.settle.new.corners c.settle.new.links c.settle.new.list left.0 left.1
     c.build-free.result c.build.result c.build-free.new.list c.build.new.list
     c.build-free.new.corners c.build.new.corners c.build-free.new.links c.build.new.links

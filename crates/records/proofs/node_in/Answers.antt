@@ -4,4 +4,4 @@ use Rattle.records.proofs.node_in.Goals as goal
 
 pub returns : goal.returns
 unfolding node_in
-returns c = rw (c.at-2.ensures, c.at.ensures, c.box_at-b.ensures)
+returns c = rw (c.count_at.ensures, c.first_at.ensures, c.box_at-b.ensures)

@@ -1,7 +1,7 @@
 -- `sorts::is_ahead` meets its contract. Assumes nothing.
-use mathlib.Core.Path.{◌≡◌, sym, subst, ◌∙◌}
-use mathlib.Core.Bool.{Bool, true, false, ◌||◌, true≢false}
-use Rattle.sorts.specs.Keys.{ahead_bit}
+use mathlib.Core.Path.{◌≡◌, refl, sym, subst, ap}
+use mathlib.Core.Bool.{Bool, true, false, ◌||◌, not, true≢false}
+use Rattle.sorts.specs.Keys.{precedes_by}
 use Rattle.sorts.proofs.Order.{goes_less, goes_more, goes_plain}
 use lib.Dec.{T, eqb}
 use lib.Ieee.{of_bits, lt}
@@ -11,42 +11,28 @@ use borrow.Author.Tests.{eqb-true}
 use Rattle.number.specs.Exact.{zeroᶠ}
 use Rattle.sorts.proofs.is_ahead.Goals as goal
 
+-- what a test answers, where both of its answers are known
+decided : (a p : Bool) → (a ≡ true → false ≡ p) → (a ≡ false → true ≡ p) → a ≡ not p
+decided true p f g = ap not (f refl)
+decided false p f g = ap not (g refl)
+
 -- where one of two tests passes, and the first does not, the second does
 other-of : (a b : Bool) → (a || b) ≡ true → a ≡ false → b ≡ true
 other-of true b e f = absurd (true≢false f)
 other-of false b e f = e
 
+pub returns-then-pivot-v : goal.returns-then-pivot-v
+unfolding of_bits
+returns-then-pivot-v c =
+    let a = c.args in
+    let v = a.pivot.key in
+    let h = subst T (sym c.if-pivot-v.true) tt in
+    let first : a.pivot.number ≡ 0 = eqb-true a.pivot.number 0 (is_true (eqb a.pivot.number 0) (and_l (eqb a.pivot.number 0) (lt v zeroᶠ || lt zeroᶠ v) h)) in
+    let unequal = is_true (lt v zeroᶠ || lt zeroᶠ v) (and_r (eqb a.pivot.number 0) (lt v zeroᶠ || lt zeroᶠ v) h) in
+    rw first (decided (lt a.k v) (precedes_by v a.k 0 a.x) (goes_more v a.k 0 a.x) (goes_plain v a.k a.x unequal))
+
 pub returns-then-k-v : goal.returns-then-k-v
-unfolding ahead_bit
 returns-then-k-v c =
     let a = c.args in
-    rw (sym (goes_more a.v a.k a.t a.x c.if-k-v.true))
-
-pub returns-else-k-v : goal.returns-else-k-v
-unfolding ahead_bit of_bits
-returns-else-k-v c =
-    let a = c.args in
-    let h = subst T (sym c.if-t-v.true) tt in
-    let first : a.t ≡ 0 = eqb-true a.t 0 (is_true (eqb a.t 0) (and_l (eqb a.t 0) (lt a.v zeroᶠ || lt zeroᶠ a.v) h)) in
-    let unequal = is_true (lt a.v zeroᶠ || lt zeroᶠ a.v) (and_r (eqb a.t 0) (lt a.v zeroᶠ || lt zeroᶠ a.v) h) in
-    rw (first, sym (goes_plain a.v a.k a.x unequal c.if-k-v.false))
-
-pub returns-then-k-v-3 : goal.returns-then-k-v-3
-unfolding ahead_bit
-returns-then-k-v-3 c =
-    let a = c.args in
-    rw (sym (goes_more a.v a.k a.t a.x c.if-k-v-3.true))
-
-pub returns-else-k-v-3 : goal.returns-else-k-v-3
-unfolding ahead_bit
-returns-else-k-v-3 c =
-    let a = c.args in
-    rw (sym (goes_less a.v a.k a.t a.x (other-of _ _ c.if-k-v-2.true c.if-k-v-3.false)))
-
-pub returns-then-tied : goal.returns-then-tied
-unfolding ahead_bit
-returns-then-tied c = rw (sym c.tied.ensures ∙ c.if-tied.true)
-
-pub returns-else-tied : goal.returns-else-tied
-unfolding ahead_bit
-returns-else-tied c = rw (sym c.tied.ensures ∙ c.if-tied.false)
+    let v = a.pivot.key in
+    decided (lt a.k v) _ (goes_more v a.k a.pivot.number a.x) (λ h. goes_less v a.k a.pivot.number a.x (other-of _ _ c.if-k-v.true h))

@@ -1,60 +1,56 @@
 -- `clip::halves::clip_some` meets its contract. Assumes nothing.
-use mathlib.Core.Path.{refl, sym, ◌∙◌}
-use mathlib.Core.Bool.{not, true≢false}
-use Prim.Native.Nat.{◌*◌, ◌<◌}
-use native.Mathlib.Omega.{arith}
-use Rattle.clip.specs.Lent.{line_in}
-use Rattle.clip.proofs.LentLaws.{rest_kept}
-use Rattle.clip.proofs.StageLaws.{place_le, place_apart, all_parts_kept, none_kept_lem, last_out, some_dropped, clip_traced, all_inside, all_outside, some_inside, short}
+use Rattle.std.proofs.Common.{◌≡◌, ◌+◌, ◌*◌, ◌≤◌, ℕ, Bool, List, length, refl, sym, ◌∙◌, true≢false, arith}
+use lib.Ieee.{Float}
+use Rattle.clip.specs.Lent.{place_of}
+use Rattle.clip.proofs.HalvesLaws.{half_fits, found_all, found_none, found_out, found_below, found_dropped, found_traced}
+use Rattle.clip.proofs.StageLaws.{all_inside, all_outside, some_inside, short}
 use Rattle.clip.proofs.halves.clip_some.Goals as goal
 
-pub first_pass-found-requires : goal.first_pass-found-requires
-first_pass-found-requires c =
-    (c.requires.1, omega (arith, c.place-from.ensures, place_le c.args.half c.args.c.second, c.requires.2, c.requires.0))
+pub slice_bounds-first_pass-end : goal.slice_bounds-first_pass-end
+slice_bounds-first_pass-end c = half_fits c.args.w.now c.args.half c.args.c.n _ c.args.c.second c.requires.0 c.requires.2 c.place-from.ensures
 
-pub returns-then-found : goal.returns-then-found
-returns-then-found c =
-    let c7 = c in
-    let d = rw c.place-from.ensures at (all_parts_kept c7.args.s (line_in c7.args.w.now c.place-from.result) c7.args.c.n c7.requires.1 c.first_pass-found.ensures.0 c.if-found-n.true c.if-found.true) in
+pub returns-in-AllKept : goal.returns-in-AllKept
+returns-in-AllKept c =
+    let a = c.args in
+    let l = half_fits a.w.now a.half a.c.n _ a.c.second c.requires.0 c.requires.2 c.place-from.ensures in
+    let d = rw c.place-from.ensures at (found_all a.w.now c.place-from.result a.c.n l a.s c.requires.1 (sym c.first_pass.ensures ∙ c.in-AllKept.is)) in
     record {
       same = refl;
       rest = refl;
-      staged = λ long es h. let f = short h c7.requires.2 in rw f (all_inside _ _ es (rw f at h) (rw ((h.held f).list c7.requires.2) at d));
-      untouched = λ es h a. record { unwritten = refl; stands = refl };
+      staged = λ long es h. let f = short h c.requires.2 in rw f (all_inside _ _ es (rw f at h) (rw ((h.held f).list c.requires.2) at d));
+      untouched = λ es h k. record { unwritten = refl; stands = refl };
     }
 
-pub returns-then-found-n : goal.returns-then-found-n
-returns-then-found-n c =
-    let c5 = c in
-    let c7 = c5 in
-    let d = rw c5.place-from.ensures at (last_out c7.args.s (line_in c7.args.w.now c5.place-from.result) c7.args.c.n c7.requires.1 c.first_pass-found.ensures.0 c.if-found.false) in
-    let k = rw c5.place-from.ensures at (none_kept_lem c7.args.s (line_in c7.args.w.now c5.place-from.result) c7.args.c.n c7.requires.1 c.first_pass-found.ensures.0 c.if-found-n.true c.if-found.false) in
+pub returns-in-NoneKept : goal.returns-in-NoneKept
+returns-in-NoneKept c =
+    let a = c.args in
+    let e = sym c.first_pass.ensures ∙ c.in-NoneKept.is in
+    let l = half_fits a.w.now a.half a.c.n _ a.c.second c.requires.0 c.requires.2 c.place-from.ensures in
+    let d = rw c.place-from.ensures at (found_out a.w.now c.place-from.result a.c.n l a.s c.requires.1 e) in
+    let k = rw c.place-from.ensures at (found_none a.w.now c.place-from.result a.c.n l a.s c.requires.1 e) in
     record {
       same = refl;
       rest = refl;
-      staged = λ long es h. let f = short h c7.requires.2 in rw f (all_outside _ _ es _ (rw ((h.held f).list c7.requires.2) at k));
-      untouched = λ es h a. absurd (true≢false (sym (rw ((h.held refl).list c7.requires.2) at d) ∙ a));
+      staged = λ long es h. let f = short h c.requires.2 in rw f (all_outside _ _ es _ (rw ((h.held f).list c.requires.2) at k));
+      untouched = λ es h k. absurd (true≢false (sym (rw ((h.held refl).list c.requires.2) at d) ∙ k));
     }
 
-pub trace-m-requires : goal.trace-m-requires
-trace-m-requires c =
-    let c8 = c in
-    (omega (arith, c.place-from.ensures, place_le c8.args.half c8.args.c.second, c8.requires.2, c8.requires.0), omega (arith, c.place-to.ensures, place_le c8.args.half (not c8.args.c.second), c8.requires.0), omega (arith, c.first_pass-found.ensures.1, c.if-found-n.false), rw (c.place-from.ensures, c.place-to.ensures) (place_apart _ _ c8.args.c.second c8.requires.2))
+pub retrace-requires : goal.retrace-requires
+retrace-requires c =
+    let a = c.args in
+    let l = half_fits a.w.now a.half a.c.n _ a.c.second c.requires.0 c.requires.2 c.place-from.ensures in
+    (c.requires.0, c.requires.2, found_below a.w.now c.place-from.result a.c.n l a.s c.requires.1 _ (sym c.first_pass.ensures ∙ c.in-StartsAt.is))
 
-pub shape_of-w : goal.shape_of-w
-shape_of-w c = c.trace-m.ensures.0.same
-
-pub returns : goal.returns
-returns c =
-    let c7 = c in
-    let c9 = c7 in
-    let c11 = c9 in
-    let l : c7.first_pass-found.result.start < c11.args.c.n = omega (arith, c7.first_pass-found.ensures.1, c.if-found-n.false) in
-    let d = rw c9.place-from.ensures at (some_dropped c11.args.s (line_in c11.args.w.now c9.place-from.result) c11.args.c.n c11.requires.1 c7.first_pass-found.ensures.0 l) in
-    let t = rw (c.place-to.ensures, c9.place-from.ensures) at (rw (← clip_traced c11.args.s (line_in c11.args.w.now c9.place-from.result) c11.args.c.n c11.requires.1 c7.first_pass-found.ensures.0 l) at c.trace-m.ensures.1) in
+pub returns-in-StartsAt : goal.returns-in-StartsAt
+returns-in-StartsAt c =
+    let a = c.args in
+    let e = sym c.first_pass.ensures ∙ c.in-StartsAt.is in
+    let l = half_fits a.w.now a.half a.c.n _ a.c.second c.requires.0 c.requires.2 c.place-from.ensures in
+    let d = rw c.place-from.ensures at (found_dropped a.w.now c.place-from.result a.c.n l a.s c.requires.1 _ e) in
+    let t = rw (← (rw c.place-from.ensures at (found_traced a.w.now c.place-from.result a.c.n l a.s c.requires.1 _ e))) at c.retrace.ensures.1 in
     record {
-      same = c.trace-m.ensures.0.same;
-      rest = rest_kept c.trace-m.ensures.0 (8 * c11.args.half) (omega (arith, c.place-to.ensures, place_le c11.args.half (not c11.args.c.second)));
-      staged = λ long es h. let f = short h c11.requires.2 in rw f (some_inside _ _ es _ _ (rw ((h.held f).list c11.requires.2) at t));
-      untouched = λ es h a. absurd (true≢false (sym (rw ((h.held refl).list c11.requires.2) at d) ∙ a));
+      same = c.retrace.auto.w;
+      rest = c.retrace.ensures.0;
+      staged = λ long es h. let f = short h c.requires.2 in rw f (some_inside _ _ es _ _ (rw ((h.held f).list c.requires.2) at t));
+      untouched = λ es h k. absurd (true≢false (sym (rw ((h.held refl).list c.requires.2) at d) ∙ k));
     }

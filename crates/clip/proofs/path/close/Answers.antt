@@ -1,10 +1,9 @@
 -- `clip::path::close` meets its contract. Assumes nothing.
-use Rattle.clip.proofs.LentLaws.{closes}
+use Rattle.clip.proofs.LentLaws.{off, closes}
 use Rattle.clip.proofs.path.close.Goals as goal
 
-pub shape_of-w : goal.shape_of-w
-shape_of-w c = c.emit.ensures.1.same
+pub returns-in-None : goal.returns-in-None
+returns-in-None c = λ t h. closes h _ (rw c.in-None.is (off h.held))
 
-pub returns : goal.returns
-returns c =
-    (c.emit.ensures.1, λ t h. closes h _ _ _ c.joins.ensures c.line.ensures (c.emit.ensures.2 _ h.held))
+pub returns-in-Some : goal.returns-in-Some
+returns-in-Some c = λ t h. closes h _ (rw c.in-Some.is (rw c.in-Some.is at (c.join.ensures.1 _ h.held)))

@@ -1,43 +1,30 @@
 -- `clip::path::run` meets its contract: the lines so far have been written as a path. Assumes nothing.
-use native.Mathlib.Nat.{le_antisymm}
-use native.Mathlib.Omega.{arith}
+use Rattle.std.proofs.Common.{◌≡◌, ◌*◌, rules, arith}
+use native.Mathlib.Nat.{zero-add}
 use Rattle.clip.specs.Passes.{step_of}
-use Rattle.clip.proofs.LentLaws.{unchanged, then, line_in_kept}
+use Rattle.clip.specs.Lent.{room_of}
 use Rattle.clip.proofs.RoundLaws.{turn_first, turn_next, fold_round_none, fold_round_next, fold_round_all}
-use borrow.Author.Rules.{rules}
 use Rattle.clip.proofs.path.run.Goals as goal
 
-pub loop-k-init : goal.loop-k-init
-loop-k-init c = (search rules, search rules, turn_first _ _, search rules, unchanged _, λ t h. rw (fold_round_none (step_of _) _ _ _ t) h)
-
-pub line_at-e-requires : goal.line_at-e-requires
-line_at-e-requires c = rw c.loop-k.invariant.4.same (omega arith)
-
-pub step-now-requires : goal.step-now-requires
-step-now-requires c = let l = c.loop-k in (rw l.invariant.4.same c.requires.1, omega arith)
+pub loop-init : goal.loop-init
+loop-init c = (c.requires.0, turn_first _ _, search rules, λ t h. rw (fold_round_none (step_of _) _ _ _ t) h)
 
 pub next-i-requires : goal.next-i-requires
-next-i-requires c = c.loop-k.invariant.1
+next-i-requires c = c.loop.invariant.0
 
-pub loop-k-preserved : goal.loop-k-preserved
-loop-k-preserved c =
-    let g = c.step-now in
-    let l = c.loop-k in
-    let a = c.args in
-    let m = c.loop-k-test.true in
-    let k = line_in_kept l.invariant.4 a.from a.n l.i c.requires.3 l.invariant.1 in (
-      search rules,
+pub loop-preserved : goal.loop-preserved
+loop-preserved c =
+    let l = c.loop in
+    let g = rw l.auto.out at c.step-now.ensures.1 in
+    (
       c.next-i.ensures.1,
-      rw c.next-i.ensures.0 (turn_next _ _ _ _ c.requires.2 m l.invariant.1 l.invariant.2),
-      omega (arith, g.ensures.0),
-      then l.invariant.4 g.ensures.1,
-      λ t h. rw (fold_round_next (step_of _) _ _ _ t l.k l.i c.requires.2 l.invariant.1 l.invariant.2) (rw (c.line_at-e.ensures, k) at (g.ensures.2 _ (l.invariant.5 t h))),
+      rw c.next-i.ensures.0 (turn_next _ _ _ _ c.requires.0 c.loop-test.true l.invariant.0 l.invariant.1),
+      omega (arith, c.step-now.ensures.0),
+      λ t h. rw (fold_round_next (step_of _) _ _ _ t l.counter l.i c.requires.0 l.invariant.0 l.invariant.1, zero-add (4 * l.i)) (rw c.line_at.ensures at (g _ (l.invariant.3 t h))),
     )
-
-pub shape_of-w : goal.shape_of-w
-shape_of-w c = c.loop-k.invariant.4.same
 
 pub returns : goal.returns
 returns c =
-    let l = c.loop-k in
-    (omega arith, l.invariant.4, λ t h. rw (le_antisymm l.invariant.0 c.loop-k-test.false, fold_round_all (step_of _) _ _ _ t c.requires.2) at (l.invariant.5 t h))
+    let l = c.loop in
+    let all : l.counter ≡ room_of c.args.lines.now = omega arith in
+    (omega arith, λ t h. rw (all, fold_round_all (step_of _) _ _ _ t c.requires.0) at (l.invariant.3 t h))

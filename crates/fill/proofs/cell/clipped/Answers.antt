@@ -1,25 +1,27 @@
 -- `fill::cell::clipped` meets its contract. Assumes nothing.
-use mathlib.Core.Path.{◌∙◌}
-use Prim.Native.Nat.{◌*◌}
-use native.Mathlib.Omega.{arith}
-use Rattle.clip.proofs.LentLaws.{rest_kept}
+use Rattle.std.proofs.Common.{◌≡◌, ◌*◌, ◌++◌, length, drop, ◌∙◌, length-append, length-drop, arith}
+use Rattle.std.proofs.lemmas.List.{length-take-le}
+use Rattle.std.proofs.lemmas.Slice.{drop-append-drop}
+use Rattle.clip.proofs.HalvesLaws.{front_written}
 use Rattle.fill.specs.Fill.{fill_of, long_of}
 use Rattle.fill.specs.Answers.{filled}
 use Rattle.fill.proofs.cell.clipped.Goals as goal
 
 pub write_chords-k-requires : goal.write_chords-k-requires
-write_chords-k-requires c =
-    let q = c.requires in
-    (omega (arith, q.0, q.1), rw (c.low_x.ensures, c.high_x.ensures) q.2)
+write_chords-k-requires c = (omega (arith, c.requires.0, c.requires.1, length-take-le (4 * c.args.half) c.args.w.now (omega (arith, c.requires.1))), rw (c.side-low.ensures, c.side.ensures) c.requires.2)
 
 pub returns : goal.returns
 unfolding filled fill_of long_of
 returns c =
-    let c8 = c in
-    let c12 = c8 in
-    let g = rw (c12.low_x.ensures, c12.high_x.ensures) at c12.write_chords-k.ensures in
-    let q = c12 in (
-      c.summed.ensures _ _ (c.clip_y-last.ensures.2 _ _ (c8.clip_x-b.ensures.2 _ g.3)),
-      c.clip_y-last.ensures.0 ∙ c8.clip_x-b.ensures.0 ∙ g.2.same,
-      c.clip_y-last.ensures.1 ∙ c8.clip_x-b.ensures.1 ∙ rest_kept g.2 (8 * q.args.half) (omega (arith, q.requires.0)),
+    let a = c.args in
+    let out = c.write_chords-k.new.out in
+    let n = c.write_chords-k.result.n in
+    let rest = drop (4 * a.half) a.w.now in
+    let m : length out ≡ 4 * a.half = c.write_chords-k.auto.out ∙ length-take-le (4 * a.half) a.w.now (omega (arith, c.requires.1)) in
+    let all : length (out ++ rest) ≡ length a.w.now = omega (arith, m, length-append out rest, length-drop (4 * a.half) a.w.now, c.requires.1) in
+    let g = rw (c.side-low.ensures, c.side.ensures) at c.write_chords-k.ensures in
+    let drawn = rw (← front_written out rest n (omega (arith, m, g.0, c.requires.0))) at g.2 in (
+      c.summed.ensures _ _ (c.clip_y-last.ensures.2 _ _ (c.clip_x-b.ensures.2 _ drawn)),
+      c.clip_y-last.ensures.0 ∙ c.clip_x-b.ensures.0 ∙ all,
+      c.clip_y-last.ensures.1 ∙ c.clip_x-b.ensures.1 ∙ drop-append-drop (4 * a.half) a.w.now out (8 * a.half) (omega arith) m,
     )

@@ -4,6 +4,7 @@ use Prim.Native.Nat.{◌*◌}
 use native.Mathlib.Omega.{arith}
 use lib.Ieee.{of_bits}
 use lib.ListN.{length}
+use lib.Ieee.{of_bits}
 use Rattle.number.specs.Exact.{zeroᶠ}
 use Rattle.lists.proofs.FrontLaws.{zeros_past}
 use Rattle.fill.specs.Answers.{half_of}

@@ -6,14 +6,15 @@ use Rattle.lists.proofs.FoldLaws.{fold_run_next, fold_run_end}
 use Rattle.lists.specs.Lists.{total}
 use Rattle.fill.specs.Fill.{xdy_of}
 use borrow.Author.Rules.{rules}
+use Rattle.clip.proofs.LentLaws.{first_line}
 use Rattle.fill.proofs.cell.sum.Goals as goal
 
 pub loop-i-init : goal.loop-i-init
 unfolding total of_bits
-loop-i-init c = (search rules, rw sub-zero)
+loop-i-init c = rw sub-zero
 
 pub loop-i-preserved : goal.loop-i-preserved
-loop-i-preserved c = (search rules, rw (c.x_dy-sum.ensures, c.line_at.ensures) (sym (fold_run_next (λ s e. add binary64 s (xdy_of e)) _ _ _ _ c.loop-i-test.true) ∙ c.loop-i.invariant.1))
+loop-i-preserved c = rw (c.x_dy-sum.ensures, c.line_at.ensures, first_line c.args.lines.now c.loop-i.i) (sym (fold_run_next (λ s e. add binary64 s (xdy_of e)) _ _ _ _ c.loop-i-test.true) ∙ c.loop-i.invariant)
 
 pub returns : goal.returns
-returns c = sym (fold_run_end (λ s e. add binary64 s (xdy_of e)) _ _ _ _ c.loop-i-test.false) ∙ c.loop-i.invariant.1
+returns c = sym (fold_run_end (λ s e. add binary64 s (xdy_of e)) _ _ _ _ c.loop-i-test.false) ∙ c.loop-i.invariant

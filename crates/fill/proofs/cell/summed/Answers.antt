@@ -3,15 +3,19 @@ use mathlib.Core.Path.{◌≡◌, sym, ◌∙◌}
 use mathlib.Core.Bool.{true, false}
 use native.Mathlib.Omega.{arith}
 use borrow.Author.Tests.{lt-ltb}
-use Rattle.clip.proofs.StageLaws.{place_le, short}
+use Rattle.clip.proofs.StageLaws.{short}
+use Rattle.clip.proofs.HalvesLaws.{half_fits, same_lines}
 use Rattle.fill.proofs.cell.summed.Goals as goal
 
 pub returns-then-half-n : goal.returns-then-half-n
 returns-then-half-n c = λ long es h. let e : long ≡ true = sym h.flag ∙ lt-ltb _ _ c.if-half-n.true in rw e
 
-pub sum-requires : goal.sum-requires
-sum-requires c =
-    omega (arith, c.place.ensures, place_le c.args.half c.args.c.second, c.if-half-n.false, c.requires)
+pub slice_bounds-sum-end : goal.slice_bounds-sum-end
+slice_bounds-sum-end c = half_fits c.args.w.now c.args.half c.args.c.n _ c.args.c.second c.requires c.if-half-n.false c.place-from.ensures
 
 pub returns : goal.returns
-returns c = λ long es h. let e : long ≡ false = short h c.if-half-n.false in rw (e, c.sum.ensures, c.place.ensures, (h.held e).list c.if-half-n.false)
+returns c = λ long es h.
+    let a = c.args in
+    let e : long ≡ false = short h c.if-half-n.false in
+    let l = half_fits a.w.now a.half a.c.n _ a.c.second c.requires c.if-half-n.false c.place-from.ensures in
+    rw (e, c.sum.ensures, same_lines a.w.now c.place-from.result a.c.n l, c.place-from.ensures, (h.held e).list c.if-half-n.false)

@@ -2,15 +2,14 @@
 use Prim.Native.Nat.{◌≤◌}
 use native.Mathlib.Nat.{le_antisymm}
 use native.Mathlib.Omega.{arith}
-use Rattle.boundary.specs.Outline.{count}
-use Rattle.clip.specs.Lent.{lines_from}
-use Rattle.clip.proofs.LentLaws.{unchanged, then, front_lines}
+use Rattle.clip.specs.Lent.{room_of, lines_from}
+use Rattle.clip.proofs.LentLaws.{front_lines}
 use borrow.Author.Rules.{rules}
 use Rattle.clip.proofs.StripLaws.{chords_begin, chord_more, chords_end}
 use Rattle.fill.proofs.lines.write_chords.Goals as goal
 
 pub loop-i-init : goal.loop-i-init
-loop-i-init c = (search rules, search rules, search rules, unchanged _, chords_begin _ c.args.w.now)
+loop-i-init c = (search rules, search rules, search rules, chords_begin _ c.args.out.now)
 
 pub chord-c-requires : goal.chord-c-requires
 chord-c-requires c = (search rules, c.requires.1)
@@ -26,8 +25,7 @@ next-requires c =
 pub emit-at-requires : goal.emit-at-requires
 emit-at-requires c =
     let l = c.loop-i in
-    let q = c.requires in
-    (rw l.invariant.3.same (omega (arith, q.0)), omega (arith, l.invariant.1, l.invariant.0))
+    omega (arith, l.invariant.1, l.invariant.0)
 
 pub overflow_add-beyond : goal.overflow_add-beyond
 overflow_add-beyond c =
@@ -46,20 +44,17 @@ loop-i-preserved c =
     let d = c.chord-c.ensures in
     let l = c.loop-i in
     let v = c.args.v.now in
-    let h = g.2 (lines_from l.w 0 0 l.at) (front_lines _ l.w l.at) in
+    let h = g.1 (lines_from l.out 0 0 l.at) (front_lines _ l.out l.at) in
     let end = rw c.next.ensures.0 at c.vertex_at-in-loop-i.ensures in
     let r = c.emit-at.result in
     let n : r ≤ c.chord-c.result.to = omega (arith, g.0, d.forward, l.invariant.1) in
-    let fits : r ≤ count v = omega (arith, n, d.fits) in
+    let fits : r ≤ room_of l.out = omega (arith, n, d.fits, l.auto.out, c.requires.0) in
     let start = c.vertex_at.ensures in
-    let more = chord_more v l.w c.emit-at.new.w l.at d start end (rw g.0 at (h.list fits)) l.invariant.4 in
-    (d.fits, n, omega (arith, d.forward, l.invariant.2), then l.invariant.3 g.1, rw g.0 more)
-
-pub shape_of-w : goal.shape_of-w
-shape_of-w c = c.loop-i.invariant.3.same
+    let more = chord_more v l.out c.emit-at.new.out l.at d start end (rw g.0 at (h.list fits)) l.invariant.3 in
+    (d.fits, n, omega (arith, d.forward, l.invariant.2), rw g.0 more)
 
 pub returns : goal.returns
 returns c =
     let l = c.loop-i in
     let e = le_antisymm l.invariant.0 c.loop-i-test.false in
-    (omega (arith, l.invariant.0, l.invariant.1), omega (arith, l.invariant.0, l.invariant.2), l.invariant.3, chords_end _ l.w l.at l.i e l.invariant.4)
+    (omega (arith, l.invariant.0, l.invariant.1), omega (arith, l.invariant.0, l.invariant.2), chords_end _ l.out l.at l.i e l.invariant.3)

@@ -7,7 +7,6 @@ use Rattle.boundary.specs.declared.Bounds.{Bounds}
 use native.Mathlib.Nat.{sub-zero}
 use mathlib.Core.Bool.{Bool, not, ◌||◌}
 use mathlib.Core.Path.{sym, ◌∙◌}
-use borrow.Author.Rules.{rules}
 use Rattle.index.proofs.refusals.any_unfit.Goals as goal
 
 abbrev step : Bool → Bounds → Bool
@@ -15,10 +14,10 @@ step f b = f || not (box_fits b)
 
 pub loop-i-init : goal.loop-i-init
 unfolding any boxes_of
-loop-i-init c = (search rules, rw sub-zero)
+loop-i-init c = rw sub-zero
 
 pub loop-i-preserved : goal.loop-i-preserved
-loop-i-preserved c = (search rules, rw (c.box_fits.ensures, c.box_at.ensures) (sym (fold_run_next step _ _ _ _ c.loop-i-test.true) ∙ c.loop-i.invariant.1))
+loop-i-preserved c = rw (c.box_fits.ensures, c.box_at.ensures) (sym (fold_run_next step _ _ _ _ c.loop-i-test.true) ∙ c.loop-i.invariant)
 
 pub returns : goal.returns
-returns c = sym (fold_run_end step _ _ _ _ c.loop-i-test.false) ∙ c.loop-i.invariant.1
+returns c = sym (fold_run_end step _ _ _ _ c.loop-i-test.false) ∙ c.loop-i.invariant

@@ -17,33 +17,27 @@ moved_at x m e = moved (to_bits binary64 x % 2 ^ 52) (m.some e) (omega arith)
 pub float_to_bits-b : goal.float_to_bits-b
 float_to_bits-b c = lt_not_nan _ _ c.if-x.true
 
-pub overflow_sub-l : goal.overflow_sub-l
+pub overflow_sub-t : goal.overflow_sub-t
 unfolding of_bits div
-overflow_sub-l c = (moved_at c.args.x (main_at c.args.x c.well_formed.0.1 c.if-x.true c.if-x-2.true) c.if-e-eq0.true).eleven
-
-pub overflow_cast-l : goal.overflow_cast-l
-unfolding of_bits div
-overflow_cast-l c = omega (arith, (moved_at c.args.x (main_at c.args.x c.well_formed.0.1 c.if-x.true c.if-x-2.true) c.if-e-eq0.true).far)
-
-pub overflow_shl-c : goal.overflow_shl-c
-unfolding of_bits div
-overflow_shl-c c = omega (arith, (moved_at c.args.x (main_at c.args.x c.well_formed.0.1 c.if-x.true c.if-x-2.true) c.if-e-eq0.true).far)
+overflow_sub-t c = (moved_at c.args.x (main_at c.args.x c.well_formed.0.1 c.if-x.true c.if-x-2.true) c.if-e-eq0.true).eleven
 
 pub overflow_add-i-then-e-eq0 : goal.overflow_add-i-then-e-eq0
 unfolding of_bits div
-overflow_add-i-then-e-eq0 c = omega (arith, (moved_at c.args.x (main_at c.args.x c.well_formed.0.1 c.if-x.true c.if-x-2.true) c.if-e-eq0.true).hi)
-
-pub overflow_sub-l-then-e-eq0 : goal.overflow_sub-l-then-e-eq0
-unfolding of_bits div
-overflow_sub-l-then-e-eq0 c = omega (arith, (moved_at c.args.x (main_at c.args.x c.well_formed.0.1 c.if-x.true c.if-x-2.true) c.if-e-eq0.true).far)
+overflow_add-i-then-e-eq0 c =
+    let v = moved_at c.args.x (main_at c.args.x c.well_formed.0.1 c.if-x.true c.if-x-2.true) c.if-e-eq0.true in
+    rw c.from-l.ensures (omega (arith, v.hi))
 
 pub root_of-requires : goal.root_of-requires
 unfolding of_bits div
-root_of-requires c = ((moved_at c.args.x (main_at c.args.x c.well_formed.0.1 c.if-x.true c.if-x-2.true) c.if-e-eq0.true).lo, (moved_at c.args.x (main_at c.args.x c.well_formed.0.1 c.if-x.true c.if-x-2.true) c.if-e-eq0.true).hi, omega (arith, (moved_at c.args.x (main_at c.args.x c.well_formed.0.1 c.if-x.true c.if-x-2.true) c.if-e-eq0.true).far), omega (arith, (moved_at c.args.x (main_at c.args.x c.well_formed.0.1 c.if-x.true c.if-x-2.true) c.if-e-eq0.true).far), omega (arith, (moved_at c.args.x (main_at c.args.x c.well_formed.0.1 c.if-x.true c.if-x-2.true) c.if-e-eq0.true).hi))
+root_of-requires c =
+    let v = moved_at c.args.x (main_at c.args.x c.well_formed.0.1 c.if-x.true c.if-x-2.true) c.if-e-eq0.true in
+    rw c.from-l.ensures (v.lo, v.hi, omega (arith, v.far), omega (arith, v.far), omega (arith, v.hi))
 
 pub returns-then-e-eq0 : goal.returns-then-e-eq0
 unfolding of_bits div
-returns-then-e-eq0 c = c.root_of.ensures ∙ ap root_of (moved_at c.args.x (main_at c.args.x c.well_formed.0.1 c.if-x.true c.if-x-2.true) c.if-e-eq0.true).same ∙ sym ((main_at c.args.x c.well_formed.0.1 c.if-x.true c.if-x-2.true).under c.if-e-eq0.true)
+returns-then-e-eq0 c =
+    let m = main_at c.args.x c.well_formed.0.1 c.if-x.true c.if-x-2.true in
+    (rw c.from-l.ensures at c.root_of.ensures) ∙ ap root_of (moved_at c.args.x m c.if-e-eq0.true).same ∙ sym (m.under c.if-e-eq0.true)
 
 pub overflow_add-e : goal.overflow_add-e
 unfolding of_bits div

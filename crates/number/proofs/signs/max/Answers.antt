@@ -5,4 +5,4 @@ use Rattle.number.proofs.signs.max.Goals as goal
 pub returns : goal.returns
 unfolding max_of
 returns c =
-    rw (c.pick-2.ensures, c.pick.ensures, c.is_before.ensures, c.is_nan-2.ensures, c.is_nan.ensures)
+    rw (c.pick-2.ensures, c.pick.ensures, c.is_before.ensures, c.is_nan-2.ensures.value, c.is_nan.ensures.value)

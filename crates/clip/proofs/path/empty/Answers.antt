@@ -1,8 +1,0 @@
--- `clip::path::empty` meets its contract. Assumes nothing.
-use mathlib.Core.Path.{refl}
-use lib.Ieee.{of_bits}
-use Rattle.clip.proofs.path.empty.Goals as goal
-
-pub returns : goal.returns
-unfolding of_bits
-returns c = refl
