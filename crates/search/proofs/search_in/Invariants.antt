@@ -10,8 +10,8 @@ use Rattle.search.proofs.search_in.Given as goal
 
 abbrev pub invariant-loop-e : goal.invariant-loop-e
 invariant-loop-e l =
-    Searching (buffer l.corners l.links l.items) most l.p (magnitude_at (outlines_of l.v l.counts) l.p) (length (outlines_of l.v l.counts)) (entry_at l.waiting.entries) l.waiting.len l.kept
+    Searching (buffer l.index.corners.now l.index.links.now l.index.items.now) most l.p (magnitude_at (outlines_of l.set.vertices.now l.set.counts.now) l.p) (length (outlines_of l.set.vertices.now l.set.counts.now)) (entry_at l.waiting.entries) l.waiting.len l.kept
 
 abbrev pub decreases-loop-e : goal.decreases-loop-e
 decreases-loop-e l =
-    total_weight (size_of (buffer l.corners l.links l.items) most l.p (magnitude_at (outlines_of l.v l.counts) l.p) (length (outlines_of l.v l.counts))) (entry_at l.waiting.entries) l.waiting.len
+    total_weight (size_of (buffer l.index.corners.now l.index.links.now l.index.items.now) most l.p (magnitude_at (outlines_of l.set.vertices.now l.set.counts.now) l.p) (length (outlines_of l.set.vertices.now l.set.counts.now))) (entry_at l.waiting.entries) l.waiting.len
