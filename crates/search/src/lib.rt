@@ -141,8 +141,7 @@ fn look(set: &SetView, index: &IndexView, first: u32, count: u32, p: Point, star
 
 // The nodes first and first + 1 wait.
 fn wait_both(index: &IndexView, p: Point, first: u32, waiting: &mut Waiting)
-    requires { (waiting.old.len + 1 < 512) × (first + 1 < 2 ^ 32) × (Heaped (entry_at waiting.old.entries) waiting.old.len
-        × (NumberGap (entry_for index.now.corners.now p first) × NumberGap (entry_for index.now.corners.now p (first + 1)))) }
+    requires { (waiting.old.len + 1 < 512) × (first + 1 < 2 ^ 32) × (NumberGap (entry_for index.now.corners.now p first) × NumberGap (entry_for index.now.corners.now p (first + 1))) }
     ensures len { waiting.new.len ≡ waiting.old.len + 2 }
     ensures opened { Opened (entry_at waiting.old.entries) waiting.old.len (entry_for index.now.corners.now p first) (entry_for index.now.corners.now p (first + 1)) (entry_at waiting.new.entries) }
 {

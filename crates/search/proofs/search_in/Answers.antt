@@ -5,7 +5,6 @@ use native.Mathlib.Omega.{arith}
 use lib.ListN.{length}
 use Rattle.boundary.proofs.KnownLaws.{owned_point}
 use Rattle.boundary.proofs.GapLaws.{squares_number}
-use Rattle.search.proofs.HeapLaws.{heaped_none}
 use Rattle.index.specs.Buffer.{buffer}
 use Rattle.set.specs.Set.{outlines_of}
 use Rattle.set.proofs.SetLaws.{outlines_length}
@@ -19,7 +18,7 @@ none_of : {n : ℕ} → n ≤ 0 → n ≡ 0
 none_of h = omega arith
 
 pub push-requires : goal.push-requires
-push-requires c = (rw c.clear.ensures (omega arith), rw c.clear.ensures (heaped_none _), rw c.entry_for.ensures (squares_number _ _))
+push-requires c = (rw c.clear.ensures (omega arith), rw c.entry_for.ensures (squares_number _ _))
 
 pub overflow_cast-set : goal.overflow_cast-set
 overflow_cast-set c =
@@ -37,17 +36,6 @@ loop-e-init c =
     let P = owned_point c.well_formed.1.1.0 A.point in
     let h = set_search_first os A.fitting A.held a.p P B c.requires.2 _ _ (rw (c.entry_for.ensures, c.clear.ensures) at c.push.ensures.pushed) in
     rw (c.none_kept-kept.ensures, ← outlines_length a.set.now.vertices.now a.set.now.counts.now, c.push.ensures.len, c.clear.ensures) h
-
-pub pop-requires : goal.pop-requires
-pop-requires c =
-    let a = c.args in
-    let os = outlines_of a.set.now.vertices.now a.set.now.counts.now in
-    let B = buffer a.index.now.corners.now a.index.now.links.now a.index.now.items.now in
-    let D = magnitude_at os a.p in
-    let n = length os in
-    let S = c.loop-e.invariant in
-    let h = searching_few B most a.p D n S in
-    (omega arith, S.heaped)
 
 pub returns-then-kept-e : goal.returns-then-kept-e
 returns-then-kept-e c =
@@ -115,7 +103,7 @@ wait_both-requires c =
     let m = children_small B most a.p D n S H e in
     let f = c.first_at-first.ensures in
     let h = searching_few B most a.p D n S in
-    (omega arith, omega arith, (rw L H.heaped, (squares_number _ _, squares_number _ _)))
+    (omega arith, omega arith, (squares_number _ _, squares_number _ _))
 
 pub loop-e-smaller : goal.loop-e-smaller
 loop-e-smaller c =

@@ -17,8 +17,8 @@ loop-p-smaller c = let up = rises_says _ _ (sym c.is_rising.ensures ∙ c.loop-p
 pub loop-p-preserved : goal.loop-p-preserved
 loop-p-preserved c =
     let L = c.loop-p in
-    let E = c.exchange.ensures in
-    let step = rise_turn L.invariant.1 (omega arith) L.invariant.2 (omega arith) (sym c.is_rising.ensures ∙ c.loop-p-test.true) E in
+    let E = c.swap.ensures in
+    let step = rise_turn L.invariant.1 (omega arith) L.invariant.2 (omega arith) (sym c.is_rising.ensures ∙ c.loop-p-test.true) E.after E.len in
     (omega arith, step.0, step.1)
 
 pub returns : goal.returns
