@@ -71,7 +71,7 @@ point_fits ps h i l =
 -- ---- the answers, point by point
 module _ (os : List Outline) (ps : List Float) where
   abbrev pub answer_at : ℕ → NearestFields
-  answer_at i = nearest_fields (nearest_in os (vertex_at ps i))
+  answer_at i = nearest_fields (Ok (nearest_in os (vertex_at ps i)))
 
   pub answers_run : answers_of os ps ≡ run answer_at 0 (count ps)
   unfolding answers_of vertices

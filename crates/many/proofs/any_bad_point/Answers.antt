@@ -7,7 +7,6 @@ use Rattle.boundary.specs.Boxes.{point_in_field}
 use Rattle.boundary.specs.Outline.{vertices}
 use Rattle.lists.specs.Lists.{any}
 use Rattle.lists.proofs.FoldLaws.{fold_run_next, fold_run_end}
-use borrow.Author.Rules.{rules}
 use Rattle.many.proofs.any_bad_point.Goals as goal
 
 abbrev step : Bool → Point → Bool

@@ -1,7 +1,7 @@
 -- `many::any_bad_point` meets its contract: what was found so far and the points that are left give the answer. Assumes nothing.
 use mathlib.Core.Path.{◌≡◌}
 use mathlib.Core.Bool.{Bool, not, ◌||◌}
-use Prim.Native.Nat.{◌≤◌, ◌-◌}
+use Prim.Native.Nat.{◌-◌}
 use Rattle.boundary.specs.declared.Point.{Point}
 use Rattle.boundary.specs.Boxes.{point_in_field}
 use Rattle.boundary.specs.Outline.{count, vertex_at}

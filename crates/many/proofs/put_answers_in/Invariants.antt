@@ -1,9 +1,6 @@
 -- `many::put_answers_in` meets its contract: the answers so far stand at the front of both lists. Assumes nothing.
 use mathlib.Core.Path.{◌≡◌}
-use Prim.Native.Nat.{◌-◌, ◌≤◌}
-use lib.ListN.{length}
 use lib.Seq.{sets}
-use Rattle.boundary.specs.Outline.{count}
 use Rattle.lists.specs.Lists.{run}
 use Rattle.set.specs.Set.{outlines_of}
 use Rattle.many.proofs.ManyLaws.{answer_at}
