@@ -1,4 +1,5 @@
 -- Demand 3 of every accepted set that has an outline and every query point, all on the grid. Assumes nothing.
+use Rattle.std.proofs.Common.{Some}
 use Rattle.std.proofs.Common.{Ok}
 use mathlib.Core.Path.{◌≡◌, sym, ap, ◌∙◌}
 use mathlib.Core.Bool.{false, not}
@@ -68,7 +69,7 @@ module _ (v : List Float) (cs : List ℕ) (passed : set_tested v cs ≡ all_pass
       rw (magnitude_is k l) (left_not_nan m (inf false) (below_le m (inf false) (below_infinity (abs_is e.distance_near.is))))
 
   -- the query passes the tests
-  answered : (B : IndexBuffer) → short_buffer B ≡ false → (nearest_outcome v cs p B).answer ≡ At (least_in os p)
+  answered : (B : IndexBuffer) → short_buffer B ≡ false → (nearest_outcome v cs p B).answer ≡ Ok (Some (least_in os p))
   unfolding nearest_outcome query_outcome given set_query_tested ◌refusing◌when◌ nearest_in
   answered B short = rw (passed, grid_in_field on.x, grid_in_field on.y, short, ne_eqb (length os) 0 (λ z. let s = outlines_some in omega arith))
 

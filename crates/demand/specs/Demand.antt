@@ -1,4 +1,5 @@
 -- Demand 3, of the set that the lists v and cs are and a query point p on the grid, which is q in steps. Definitions only.
+use Rattle.std.specs.Prelude.{Some}
 use Rattle.std.specs.Prelude.{◌≡◌, false, List, ℕ, ◌<◌, length, Ok, Float}
 use Rattle.number.specs.Signs.{abs_of}
 use Rattle.boundary.specs.declared.Point.{Point}
@@ -14,7 +15,7 @@ use Rattle.exact.specs.OneOutline.{OutlineExact}
 -- The nearest answer is the least of the magnitudes, with the lowest number among the outlines that have it (`NearestIs`), and the call answers it in an index buffer
 pub record NearestLeast (v : List Float) (cs : List ℕ) (p : Point) : Type 0 where
   pub best : Best
-  pub answer : (B : IndexBuffer) → short_buffer B ≡ false → (nearest_outcome v cs p B).answer ≡ At best
+  pub answer : (B : IndexBuffer) → short_buffer B ≡ false → (nearest_outcome v cs p B).answer ≡ Ok (Some best)
   pub is : NearestIs (outlines_of v cs) p best
 
 -- All of it holds together: of every outline area, location, containment and distance (`OutlineExact`), and of the set the nearest answer, by the magnitudes of
