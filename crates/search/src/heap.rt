@@ -7,7 +7,7 @@ ghost use Rattle.search.specs.Sifts.{rises, earlier_of, least_child, Rising, Sin
 use crate::Entry;
 
 // The nodes that wait: the first `len` entries, a heap.
-#[derive(Clone, Copy)]
+#[derive(Drop)]
 pub struct Waiting {
     entries: [Entry; 512],
     len: usize,
