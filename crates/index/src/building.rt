@@ -39,25 +39,26 @@ fn grow_leaf(boxes: &[f64], corners: &mut [f64], links: &mut [u32], items: &mut 
     1
 }
 
-// The index of a list of at most N boxes, in buffers of index size, with space for their widened boxes' numbers,
-// W of them, their centres and their own numbers. The space is filled with zeros first, so it is as large as is needed.
-fn grow_within<const N: usize, const W: usize>(
+// The index of a list of at most N boxes, in buffers of index size, with space for their widened boxes, their
+// centres and their numbers. The space is filled with zeros first, so it is as large as is needed.
+fn grow_within<const N: usize>(
     boxes: &[f64],
     corners: &mut [f64],
     links: &mut [u32],
     items: &mut [u32],
 ) -> usize
     requires { Accepted boxes.now (length corners.old) (length links.old) (length items.old)
-        × (box_count boxes.now ≤ N) × (4 * N ≤ W) × (W ≤ 4096) }
+        × (box_count boxes.now ≤ N) × (N ≤ 1024) }
     ensures { record { answer = result; lent = buffer corners.new links.new items.new }
         ≡ grown (index_of boxes.now) (buffer corners.old links.old items.old) }
 {
     let n = boxes.len() / 4;
-    let mut wide = [0.0; W];
+    let mut numbers = [[0.0; 4]; N];
+    let wide = numbers.as_flattened_mut();
     let mut xs = [0.0; N];
     let mut ys = [0.0; N];
     let mut work = [0; N];
-    boxes::widen(boxes, &mut wide, &mut xs, &mut ys);
+    boxes::widen(boxes, wide, &mut xs, &mut ys);
     boxes::count_up(&mut items[..n]);
     let entries = Entries {
         wide: &wide[..4 * n],
@@ -83,12 +84,12 @@ pub fn grow(boxes: &[f64], corners: &mut [f64], links: &mut [u32], items: &mut [
         return grow_leaf(boxes, corners, links, items);
     }
     if n <= 16 {
-        return grow_within::<16, 64>(boxes, corners, links, items);
+        return grow_within::<16>(boxes, corners, links, items);
     }
     if n <= 128 {
-        return grow_within::<128, 512>(boxes, corners, links, items);
+        return grow_within::<128>(boxes, corners, links, items);
     }
-    grow_within::<1024, 4096>(boxes, corners, links, items)
+    grow_within::<1024>(boxes, corners, links, items)
 }
 
 // The same, where a single leaf is put without the stack that `grow` takes for all its space.

@@ -21,7 +21,8 @@ use index::building;
 use index::refusals::{boxes_tested, short_index};
 use nodes::IndexView;
 
-// Stores x at k, where there is room, and gives the next place.
+// Stores x at k, where there is room, and gives the next place. A struct of the list and its next place would hold a
+// `&mut`, and owe a clause for it in every function here.
 fn push(list: &mut [u32], k: usize, x: u32) -> usize
     requires { k ≤ length list.old }
     ensures { record { answer = result; lent = list.new } ≡ put_from list.old k (x ∷ []) }

@@ -5,8 +5,6 @@ use Rattle.boundary.specs.declared.Point.{Point}
 use Rattle.lists.proofs.StoreLaws.{sets_more, flat_more}
 use Rattle.boxes.specs.BoxLists.{box_count, box_numbers, wide_at, centre_of, widened_in}
 use Rattle.lists.specs.Lists.{run}
-use lib.Seq.{length-sets}
-use lib.ListN.{length}
 use native.Mathlib.Omega.{arith}
 use mathlib.Core.Path.{◌≡◌, refl, ap, ◌∙◌}
 use Rattle.boxes.proofs.widen.Goals as goal
@@ -26,15 +24,6 @@ loop-i-preserved c =
       sets_more _ _ _ (λ j. (centre_of (wide_at boxes j)).x) _ _ inv.1 (ap (λ (p : Point). p.x) centre) c.put.ensures,
       sets_more _ _ _ (λ j. (centre_of (wide_at boxes j)).y) _ _ inv.2 (ap (λ (p : Point). p.y) centre) c.put-in-loop-i.ensures,
     )
-
-pub shape_of-wide : goal.shape_of-wide
-shape_of-wide c = ap length c.loop-i.invariant.0 ∙ simp length-sets
-
-pub shape_of-xs : goal.shape_of-xs
-shape_of-xs c = ap length c.loop-i.invariant.1 ∙ simp length-sets
-
-pub shape_of-ys : goal.shape_of-ys
-shape_of-ys c = ap length c.loop-i.invariant.2 ∙ simp length-sets
 
 pub returns : goal.returns
 unfolding widened_in

@@ -13,6 +13,3 @@ returns-then-y-x c =
     let x = c.key-x.ensures in
     let y = c.key-y.ensures in
     goes_more _ _ _ _ (rw (x, y) at c.if-y-x.true)
-
-pub returns : goal.returns
-returns c = rw (c.tied.ensures, c.key-x.ensures, c.key-y.ensures)

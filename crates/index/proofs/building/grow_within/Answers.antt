@@ -1,8 +1,8 @@
 -- `index::building::grow_within` meets its contract. Assumes nothing.
-use Rattle.std.proofs.Common.{ℕ, ◌++◌, drop, replicate, ap, arith}
+use Rattle.std.proofs.Common.{ℕ, List, [], ◌∷◌, ◌++◌, drop, replicate, ap, arith}
 use Rattle.std.proofs.lemmas.List.{length-replicate}
 use lib.Seq.{length-take-le, length_front}
-use lib.Ieee.{of_bits, binary64}
+use lib.Ieee.{Float, of_bits, binary64}
 use Rattle.boxes.specs.BoxLists.{box_count, WideLists, widened_in}
 use Rattle.index.proofs.GrowLaws.{numbers_ascend, grown_all}
 use Rattle.index.proofs.building.grow_within.Goals as goal
@@ -27,8 +27,9 @@ returns g c =
     let s = A.size in
     let w = c.widen.ensures in
     let zero = of_bits binary64 0 in
-    let lw = length-replicate g.row.W zero in
+    let lw = c.as_flattened_mut-wide.ensures.len in
+    let ln = length-replicate {A = List Float} g.row.N (zero ∷ zero ∷ zero ∷ zero ∷ []) in
     let lx = length-replicate g.row.N zero in
-    grown_all a.boxes.now A.whole (replicate g.row.W zero) c.widen.new.wide (replicate g.row.N zero) c.widen.new.xs (replicate g.row.N zero) c.widen.new.ys
+    grown_all a.boxes.now A.whole _ c.widen.new.wide (replicate g.row.N zero) c.widen.new.xs (replicate g.row.N zero) c.widen.new.ys
     (ap (λ (o : WideLists). o.wide) w) (ap (λ (o : WideLists). o.xs) w) (ap (λ (o : WideLists). o.ys) w) (omega arith) (omega arith) (omega arith) a.corners.now _ a.links.now _ a.items.now c.count_up.new.items c.build.new.list _
     (omega arith) A.corners A.links A.items c.count_up.ensures c.build.ensures
