@@ -7,7 +7,7 @@ ghost use Rattle.search.specs.Sifts.{rises, earlier_of, least_child, Rising, Sin
 use crate::Entry;
 
 // The nodes that wait: the first `len` entries, a heap.
-#[derive(Clone, Copy)]
+#[derive(Drop)]
 pub struct Waiting {
     entries: [Entry; 512],
     len: usize,
@@ -15,6 +15,8 @@ pub struct Waiting {
     ghost heaped: { Heaped (entry_at entries) len },
 }
 
+// The order of the entries, by gap and then by number. It stands in the heap's inner loops and has no branch, as a
+// derived order would.
 fn is_before(a: Entry, b: Entry) -> bool
     ensures { result ≡ entry_before a b }
 {
@@ -50,12 +52,11 @@ fn first_of(entries: &[Entry], n: usize, a: usize, b: usize) -> usize
     requires { (n ≤ length entries.now) × (a < length entries.now) }
     ensures { result ≡ earlier_of (entry_at entries.now) n a b }
 {
-    if b < n {
-        if is_before(entries[b], entries[a]) {
-            return b;
-        }
+    if b < n && is_before(entries[b], entries[a]) {
+        b
+    } else {
+        a
     }
-    a
 }
 
 // The least of i and its children among the first n.

@@ -68,13 +68,12 @@ fn entry_for(index: &IndexView, node: u32, p: Point) -> Entry
 fn none_kept(n: u32) -> Kept
     ensures { result ≡ none_kept n }
 {
-    let top = 1.0 / 0.0;
     Kept {
         best: Best {
             outline: n,
-            distance: top,
+            distance: f64::INFINITY,
         },
-        far: top,
+        far: f64::INFINITY,
     }
 }
 
@@ -101,9 +100,7 @@ fn box_squares(boxes: &[f64], k: u32, p: Point) -> f64
     ensures { result ≡ gap_squares (diagonal_of (box_at boxes.now k)) p }
 {
     let b = boxes::box_at(boxes, k as usize);
-    let low = b.min;
-    let high = b.max;
-    gap_squares(Edge { a: low, b: high }, p)
+    gap_squares(Edge { a: b.min, b: b.max }, p)
 }
 
 // The better of what is kept and outline k: its edges are looked at where its box is not clearly farther, and
