@@ -6,9 +6,6 @@ use Rattle.clip.proofs.HalvesLaws.{half_fits, found_all, found_none, found_out, 
 use Rattle.clip.proofs.StageLaws.{all_inside, all_outside, some_inside, short}
 use Rattle.clip.proofs.halves.clip_some.Goals as goal
 
-pub slice_bounds-first_pass-end : goal.slice_bounds-first_pass-end
-slice_bounds-first_pass-end c = half_fits c.args.w.now c.args.half c.args.c.n _ c.args.c.second c.requires.0 c.requires.2 c.place-from.ensures
-
 pub returns-in-AllKept : goal.returns-in-AllKept
 returns-in-AllKept c =
     let a = c.args in

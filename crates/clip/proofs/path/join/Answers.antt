@@ -3,9 +3,6 @@ use Rattle.std.proofs.Common.{not, arith}
 use Rattle.clip.proofs.LentLaws.{off, one_le, if_joint}
 use Rattle.clip.proofs.path.join.Goals as goal
 
-pub returns-in-None : goal.returns-in-None
-returns-in-None c = (omega arith, λ es h. rw c.in-None.is (off h))
-
 pub returns-in-Some : goal.returns-in-Some
 returns-in-Some c =
     let p = c.in-Some.p in

@@ -9,9 +9,6 @@ use Rattle.clip.proofs.path.run.Goals as goal
 pub loop-init : goal.loop-init
 loop-init c = (c.requires.0, turn_first _ _, search rules, λ t h. rw (fold_round_none (step_of _) _ _ _ t) h)
 
-pub next-i-requires : goal.next-i-requires
-next-i-requires c = c.loop.invariant.0
-
 pub loop-preserved : goal.loop-preserved
 loop-preserved c =
     let l = c.loop in
@@ -22,9 +19,3 @@ loop-preserved c =
       omega (arith, c.step-now.ensures.0),
       λ t h. rw (fold_round_next (step_of _) _ _ _ t l.counter l.i c.requires.0 l.invariant.0 l.invariant.1, zero-add (4 * l.i)) (rw c.line_at.ensures at (g _ (l.invariant.3 t h))),
     )
-
-pub returns : goal.returns
-returns c =
-    let l = c.loop in
-    let all : l.counter ≡ room_of c.args.lines.now = omega arith in
-    (omega arith, λ t h. rw (all, fold_round_all (step_of _) _ _ _ t c.requires.0) at (l.invariant.3 t h))

@@ -5,12 +5,6 @@ use Rattle.clip.specs.Passes.{nothing, traced}
 use Rattle.clip.proofs.LentLaws.{starts}
 use Rattle.clip.proofs.path.trace.Goals as goal
 
-pub run-b-requires : goal.run-b-requires
-run-b-requires c = (c.requires, rw c.empty.ensures (omega arith))
-
-pub close-requires : goal.close-requires
-close-requires c = omega (arith, c.run-b.ensures.0, ap (λ (s : State). s.at) c.empty.ensures)
-
 pub returns : goal.returns
 unfolding traced
 returns c = let f = rw c.run-b.auto.out at c.close.ensures in f _ (c.run-b.ensures.1 nothing (starts c.empty.ensures))

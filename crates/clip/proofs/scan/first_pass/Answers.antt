@@ -10,11 +10,6 @@ use Rattle.clip.proofs.LentLaws.{first_line}
 use Rattle.clip.proofs.FirstPassLaws.{start_here, start_later, start_past_all, tells_start, tells_none}
 use Rattle.clip.proofs.scan.first_pass.Goals as goal
 
-pub loop-i-init : goal.loop-i-init
-loop-i-init c =
-    let a = c.args in
-    rw (sub-zero, zero-add (start_line _ _ _), c.marks_at-last.ensures, first_line a.lines.now (room_of a.lines.now - 1))
-
 pub returns-then-comes_in : goal.returns-then-comes_in
 returns-then-comes_in c =
     let a = c.args in
