@@ -38,7 +38,10 @@ pub record Tracks (to room : ℕ) (w : List Float) (s : State) (t : Path) : Type
   pub ends : s.ends ≡ t.ends
   pub held : Holds to room w s.at t.out
 
--- ---- the two halves of a list, of `half` lines each
+-- ---- the two halves of a list, of `half` lines each: the most that fit twice
+abbrev pub half_in : List Float → ℕ
+half_in w = length w / 8
+
 -- where a half starts
 abbrev pub place_of : ℕ → Bool → ℕ
 place_of half second = cond second (4 * half) 0

@@ -12,8 +12,7 @@ loop-init c = (c.requires.0, turn_first _ _, search rules, λ t h. rw (fold_roun
 pub loop-preserved : goal.loop-preserved
 loop-preserved c =
     let l = c.loop in
-    let g = rw l.auto.out at c.step-now.ensures.1 in
-    (
+    let g = rw l.auto.out at c.step-now.ensures.1 in (
       c.next-i.ensures.1,
       rw c.next-i.ensures.0 (turn_next _ _ _ _ c.requires.0 c.loop-test.true l.invariant.0 l.invariant.1),
       omega (arith, c.step-now.ensures.0),
