@@ -1,10 +1,7 @@
 -- A vertex in a cell. Assumes nothing.
-use mathlib.Core.Path.{◌≡◌, refl, sym, subst}
-use mathlib.Core.Bool.{Bool, true, false, ◌&&◌}
-use Prim.Native.Nat.{ℕ, ◌+◌, ◌-◌, ◌<◌}
-use native.Mathlib.Omega.{arith}
-use borrow.Author.Tests.{ltb-true, ltb-false}
-use lib.Dec.{T, ltb}
+use mathlib.Core.Path.{◌≡◌, sym, subst}
+use mathlib.Core.Bool.{Bool, true, ◌&&◌}
+use lib.Dec.{T}
 use lib.Ieee.{le}
 use Rattle.lists.proofs.FoldLaws.{and_both}
 use Rattle.boundary.specs.declared.Point.{Point}

@@ -1,7 +1,6 @@
 -- `clip::halves::clip` meets its contract. Assumes nothing.
 use mathlib.Core.Path.{refl}
-use native.Mathlib.Omega.{arith}
-use Rattle.clip.proofs.StageLaws.{too_long, empty}
+use Rattle.clip.proofs.StageLaws.{empty}
 use Rattle.clip.proofs.halves.clip.Goals as goal
 
 pub returns-then-n-eq0 : goal.returns-then-n-eq0

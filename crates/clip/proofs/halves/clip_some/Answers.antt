@@ -1,7 +1,5 @@
 -- `clip::halves::clip_some` meets its contract. Assumes nothing.
-use Rattle.std.proofs.Common.{◌≡◌, ◌+◌, ◌*◌, ◌≤◌, ℕ, Bool, List, length, refl, sym, ◌∙◌, true≢false, arith}
-use lib.Ieee.{Float}
-use Rattle.clip.specs.Lent.{place_of}
+use Rattle.std.proofs.Common.{refl, sym, ◌∙◌, true≢false, arith}
 use Rattle.clip.specs.Lent.{half_in}
 use Rattle.clip.proofs.HalvesLaws.{half_fits, found_all, found_none, found_out, found_below, found_dropped, found_traced}
 use Rattle.clip.proofs.StageLaws.{all_inside, all_outside, some_inside, short}

@@ -1,6 +1,6 @@
 -- `clip::halves::retrace` meets its contract. Assumes nothing.
-use Rattle.std.proofs.Common.{◌≡◌, ◌-◌, ◌*◌, take, ◌∙◌, arith}
-use Rattle.clip.specs.Lent.{room_of, half_in}
+use Rattle.std.proofs.Common.{◌-◌, ◌∙◌, arith}
+use Rattle.clip.specs.Lent.{half_in}
 use Rattle.clip.proofs.HalvesLaws.{room_taken, past_halves, from_first, from_second, in_first, in_second}
 use Rattle.clip.proofs.halves.retrace.Goals as goal
 

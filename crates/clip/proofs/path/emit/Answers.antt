@@ -1,7 +1,7 @@
 -- `clip::path::emit` meets its contract. Assumes nothing.
 use Rattle.std.proofs.Common.{◌*◌, arith}
 use native.Mathlib.Nat.{zero-add}
-use Rattle.clip.proofs.LentLaws.{off, beyond_room, on}
+use Rattle.clip.proofs.LentLaws.{on}
 use Rattle.clip.proofs.path.emit.Goals as goal
 
 pub returns-then-at-out : goal.returns-then-at-out

@@ -1,6 +1,6 @@
 -- `clip::path::join` meets its contract. Assumes nothing.
 use Rattle.std.proofs.Common.{not, arith}
-use Rattle.clip.proofs.LentLaws.{off, one_le, if_joint}
+use Rattle.clip.proofs.LentLaws.{one_le, if_joint}
 use Rattle.clip.proofs.path.join.Goals as goal
 
 pub returns-in-Some : goal.returns-in-Some

@@ -1,9 +1,8 @@
 -- `clip::path::run` meets its contract: the lines so far have been written as a path. Assumes nothing.
-use Rattle.std.proofs.Common.{◌≡◌, ◌*◌, rules, arith}
+use Rattle.std.proofs.Common.{◌*◌, rules, arith}
 use native.Mathlib.Nat.{zero-add}
 use Rattle.clip.specs.Passes.{step_of}
-use Rattle.clip.specs.Lent.{room_of}
-use Rattle.clip.proofs.RoundLaws.{turn_first, turn_next, fold_round_none, fold_round_next, fold_round_all}
+use Rattle.clip.proofs.RoundLaws.{turn_first, turn_next, fold_round_none, fold_round_next}
 use Rattle.clip.proofs.path.run.Goals as goal
 
 pub loop-init : goal.loop-init

@@ -1,6 +1,4 @@
 -- `clip::path::trace` meets its contract. Assumes nothing.
-use Rattle.std.proofs.Common.{ap, arith}
-use Rattle.clip.specs.declared.State.{State}
 use Rattle.clip.specs.Passes.{nothing, traced}
 use Rattle.clip.proofs.LentLaws.{starts}
 use Rattle.clip.proofs.path.trace.Goals as goal
