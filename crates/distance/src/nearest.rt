@@ -1,4 +1,6 @@
 // The nearest edge of an outline, and the signed distance.
+// That points and edges are of the field stands in clauses: types with that invariant would be a second `Point` and
+// `Edge`, which each edge of a lent list would be turned into, and the public functions take a `Point`.
 ghost use Rattle.std.specs.Prelude.{◌≡◌, true, false, not, cond, ◌<◌, eqb};
 ghost use Rattle.std.specs.Float.{inf};
 ghost use Rattle.std.specs.Float.Ieee.{lt};
