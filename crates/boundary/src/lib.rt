@@ -114,12 +114,14 @@ pub fn edge_at(v: &[f64], i: usize) -> Edge
     }
 }
 
+// The lesser of two, the first where they are equal; std's `min` leaves open which of two zeros it gives.
 pub fn lesser_of(a: f64, b: f64) -> f64
     ensures { result ≡ lesser a b }
 {
     number::signs::pick(b < a, b, a)
 }
 
+// The greater, in the same way.
 pub fn greater_of(a: f64, b: f64) -> f64
     ensures { result ≡ greater a b }
 {

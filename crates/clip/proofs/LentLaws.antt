@@ -1,14 +1,13 @@
 -- Lines in a list of numbers: those of a part of it, and what stands there once a line is written. Assumes nothing.
-use mathlib.Core.Path.{◌≡◌, refl, sym, ap, ◌∙◌}
-use mathlib.Core.Logic.{inl, inr, ⊎_elim}
+use mathlib.Core.Path.{◌≡◌, refl, ap, ◌∙◌}
 use mathlib.Core.List.{List, [], ◌∷◌, ◌++◌, append-nil}
 use mathlib.Core.Bool.{Bool, true, false, cond}
-use Prim.Native.Nat.{ℕ, ◌+◌, ◌-◌, ◌*◌, ◌≤◌, ◌<◌}
+use Prim.Native.Nat.{ℕ, ◌+◌, ◌*◌, ◌≤◌, ◌<◌}
 use native.Mathlib.Numerals.{add-one}
 use native.Mathlib.Omega.{arith}
 use Rattle.std.proofs.lemmas.List.{get_or-take}
-use lib.ListN.{length, get_or, set, take, drop, length-append, length-set, length-drop}
-use lib.Seq.{get_or-set_same, get_or-set_other, get_or-drop, ext_get_or}
+use lib.ListN.{length, get_or, set, take, drop, length-append, length-set}
+use lib.Seq.{get_or-set_same, get_or-set_other, get_or-drop}
 use lib.Ieee.{Float, nan}
 use Rattle.boundary.specs.declared.Edge.{Edge}
 use Rattle.lists.proofs.RunLaws.{run_last, run_same, length_run}

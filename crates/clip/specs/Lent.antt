@@ -1,5 +1,5 @@
 -- The lines that stand in a lent list, four numbers each, and what is left of the list while they are written. Inner definitions. Definitions only.
-use Rattle.std.specs.Prelude.{◌≡◌, ◌⊎◌, Bool, false, not, ◌||◌, cond, List, ℕ, ◌+◌, ◌*◌, ◌/◌, ◌<◌, ◌≤◌, ltb, length, get_or, set, drop, Float}
+use Rattle.std.specs.Prelude.{◌≡◌, Bool, false, not, ◌||◌, cond, List, ℕ, ◌+◌, ◌*◌, ◌/◌, ◌≤◌, ltb, length, get_or, set, drop, Float}
 use Rattle.std.specs.Float.{nan}
 use Rattle.boundary.specs.declared.Edge.{Edge}
 use Rattle.lists.specs.Lists.{run, any}
@@ -38,7 +38,10 @@ pub record Tracks (to room : ℕ) (w : List Float) (s : State) (t : Path) : Type
   pub ends : s.ends ≡ t.ends
   pub held : Holds to room w s.at t.out
 
--- ---- the two halves of a list, of `half` lines each
+-- ---- the two halves of a list, of `half` lines each: the most that fit twice
+abbrev pub half_in : List Float → ℕ
+half_in w = length w / 8
+
 -- where a half starts
 abbrev pub place_of : ℕ → Bool → ℕ
 place_of half second = cond second (4 * half) 0

@@ -14,7 +14,7 @@ use Rattle.gdsii.proofs.AcceptedCalls.{ReadSet, call_reads}
 use Rattle.demand.specs.Demand.{Demand3}
 use Rattle.demand.proofs.Demand.{demand_3}
 
-pub streams_demand_3 : (s : List ℕ) (L : SetLent) → (read_call s L).answer.number ≡ 0 → 0 < (read_call s L).answer.size.outlines
+pub streams_demand_3 : (s : List ℕ) (L : SetLent) → (read_call s L).answer.number ≡ 0 → 0 < (read_call s L).answer.value.outlines
     → {p : Point} {q : PointZ} → PointOn p q → Demand3 (vertices_left s L) (counts_left s L) p q
 streams_demand_3 s L e some {p} {q} on = go (call_reads s L e).1
   where

@@ -1,4 +1,6 @@
 // The nearest edge of an outline, and the signed distance.
+// That points and edges are of the field stands in clauses: types with that invariant would be a second `Point` and
+// `Edge`, which each edge of a lent list would be turned into, and the public functions take a `Point`.
 ghost use Rattle.std.specs.Prelude.{◌≡◌, true, false, not, cond, ◌<◌, eqb};
 ghost use Rattle.std.specs.Float.{inf};
 ghost use Rattle.std.specs.Float.Ieee.{lt};
@@ -136,14 +138,11 @@ fn first_turn(k: usize) -> usize
     if k == 0 { 1 } else { 0 }
 }
 
-// The edge that has the outline's nearest point to (x, y), the first among equals. The point comes as two
-// numbers: those of a `Point` would be written to memory one by one and read back as one, which the processor
-// has to wait for.
-fn edge_near(v: &[f64], x: f64, y: f64) -> FoundEdge
-    requires { (any (λ x. not (is_in_field x)) v.now ≡ false) × (point_in_field (record { x = x; y = y }) ≡ true) × (0 < count v.now) }
-    ensures { NearestEdge v.now (record { x = x; y = y }) result }
+// The edge that has the outline's nearest point to p, the first among equals.
+pub fn nearest_edge(v: &[f64], p: Point) -> FoundEdge
+    requires { (any (λ x. not (is_in_field x)) v.now ≡ false) × (point_in_field p ≡ true) × (0 < count v.now) }
+    ensures { NearestEdge v.now p result }
 {
-    let p = Point { x, y };
     let n = v.len() / 2;
     let k = near_vertex(v, p);
     let mut best = found(edge_at(v, k), k, p);
@@ -151,14 +150,6 @@ fn edge_near(v: &[f64], x: f64, y: f64) -> FoundEdge
         best = nearer_edge(best, edge_at(v, i), i, p);
     }
     best
-}
-
-// The same of a point.
-pub fn nearest_edge(v: &[f64], p: Point) -> FoundEdge
-    requires { (any (λ x. not (is_in_field x)) v.now ≡ false) × (point_in_field p ≡ true) × (0 < count v.now) }
-    ensures { NearestEdge v.now p result }
-{
-    edge_near(v, p.x, p.y)
 }
 
 // The threshold that selects the normal.

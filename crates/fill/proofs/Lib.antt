@@ -4,7 +4,7 @@
 pub mod TestedLaws
 -- An outline wholly inside the cell: its fill is the sum over its own edges.
 pub mod OutlineWithin
--- A vertex in a cell.
+-- Vertices in a cell, row after row.
 pub mod WithinLaws
 -- The strip between the two bounds of x.
 pub mod ChordLaws

@@ -158,7 +158,8 @@ fn root_of(c: u64, w: u64, i: u64) -> f64
     root_by_digits(c, w, 0x10_0000_0000_0000)
 }
 
-// The double nearest to the exact root.
+// The double nearest to the exact root. (std's `sqrt` is the machine's own instruction: that it rounds rightly would
+// be taken on trust, where this is proved.)
 pub fn sqrt(x: f64) -> f64
     ensures { result ≡ sqrt_of x }
 {

@@ -1,10 +1,7 @@
 -- `clip::path::join` meets its contract. Assumes nothing.
 use Rattle.std.proofs.Common.{not, arith}
-use Rattle.clip.proofs.LentLaws.{off, one_le, if_joint}
+use Rattle.clip.proofs.LentLaws.{one_le, if_joint}
 use Rattle.clip.proofs.path.join.Goals as goal
-
-pub returns-in-None : goal.returns-in-None
-returns-in-None c = (omega arith, λ es h. rw c.in-None.is (off h))
 
 pub returns-in-Some : goal.returns-in-Some
 returns-in-Some c =

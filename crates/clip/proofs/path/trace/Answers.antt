@@ -1,15 +1,7 @@
 -- `clip::path::trace` meets its contract. Assumes nothing.
-use Rattle.std.proofs.Common.{ap, arith}
-use Rattle.clip.specs.declared.State.{State}
 use Rattle.clip.specs.Passes.{nothing, traced}
 use Rattle.clip.proofs.LentLaws.{starts}
 use Rattle.clip.proofs.path.trace.Goals as goal
-
-pub run-b-requires : goal.run-b-requires
-run-b-requires c = (c.requires, rw c.empty.ensures (omega arith))
-
-pub close-requires : goal.close-requires
-close-requires c = omega (arith, c.run-b.ensures.0, ap (λ (s : State). s.at) c.empty.ensures)
 
 pub returns : goal.returns
 unfolding traced

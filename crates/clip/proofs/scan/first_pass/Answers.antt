@@ -1,19 +1,14 @@
 -- `clip::scan::first_pass` meets its contract: the lines so far do not come in, and the lines that are left give the start. Assumes nothing.
 use Rattle.std.proofs.Common.{◌-◌, Bool, cond, sym, ap, ◌∙◌, arith}
-use native.Mathlib.Nat.{sub-zero, zero-add, add-zero}
+use native.Mathlib.Nat.{add-zero}
 use Rattle.lists.proofs.RunLaws.{length_run}
 use Rattle.clip.specs.declared.Marks.{Marks}
 use Rattle.clip.specs.declared.FirstPass.TheVariants.{AllKept, NoneKept}
-use Rattle.clip.specs.Passes.{marks_of, start_line}
+use Rattle.clip.specs.Passes.{marks_of}
 use Rattle.clip.specs.Lent.{room_of, line_in}
 use Rattle.clip.proofs.LentLaws.{first_line}
 use Rattle.clip.proofs.FirstPassLaws.{start_here, start_later, start_past_all, tells_start, tells_none}
 use Rattle.clip.proofs.scan.first_pass.Goals as goal
-
-pub loop-i-init : goal.loop-i-init
-loop-i-init c =
-    let a = c.args in
-    rw (sub-zero, zero-add (start_line _ _ _), c.marks_at-last.ensures, first_line a.lines.now (room_of a.lines.now - 1))
 
 pub returns-then-comes_in : goal.returns-then-comes_in
 returns-then-comes_in c =

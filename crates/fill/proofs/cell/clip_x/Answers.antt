@@ -5,18 +5,20 @@ use Rattle.clip.proofs.StageLaws.{begins, empty}
 use Rattle.clip.proofs.ShortenedLaws.{shortened_clips}
 use Rattle.fill.specs.Fill.{high_x_of}
 use Rattle.clip.proofs.LentLaws.{front_lines}
+use Rattle.clip.specs.Lent.{half_in}
 use Rattle.fill.proofs.cell.clip_x.Goals as goal
 
 pub returns-then-a-eq0 : goal.returns-then-a-eq0
 returns-then-a-eq0 c =
     let q = c in
-    let first = rw c.side.ensures at c.clip-first.ensures in (
+    let first = rw c.side.ensures at c.clip-first.ensures in
+    let told = rw first.same at c.counted-a.ensures in (
       first.same,
       first.rest,
       λ es h.
           let k = shortened_clips h in
-          let one = first.staged false _ (begins (front_lines q.args.half q.args.w.now q.args.n) q.requires.1) in
-          rw (← k.same_list) at (empty (c.counted-a.ensures _ _ _ k.longer_by one) (high_x_of q.args.c) c.if-a-eq0.true),
+          let one = first.staged false _ (begins (front_lines (half_in q.args.w.now) q.args.w.now q.args.n) q.requires.0) in
+          rw (← k.same_list) at (empty (told _ _ _ k.longer_by one) (high_x_of q.args.c) c.if-a-eq0.true),
     )
 
 pub returns : goal.returns
@@ -24,11 +26,12 @@ returns c =
     let c10 = c in
     let q = c10 in
     let first = rw c10.side.ensures at c10.clip-first.ensures in
-    let second = rw c.side-2.ensures at c.clip.ensures in (
+    let told = rw first.same at c.counted-a.ensures in
+    let second = rw (c.side-2.ensures, first.same) at c.clip.ensures in (
       second.same ∙ first.same,
       second.rest ∙ first.rest,
       λ es h.
           let k = shortened_clips h in
-          let one = first.staged false _ (begins (front_lines q.args.half q.args.w.now q.args.n) q.requires.1) in
-          rw (← k.same_list) at (second.staged _ _ (c.counted-a.ensures _ _ _ k.longer_by one)),
+          let one = first.staged false _ (begins (front_lines (half_in q.args.w.now) q.args.w.now q.args.n) q.requires.0) in
+          rw (← k.same_list) at (second.staged _ _ (told _ _ _ k.longer_by one)),
     )

@@ -12,6 +12,6 @@ returns-then-b-eq0 c =
 
 pub returns : goal.returns
 returns c =
-    let second = rw c.side-2.ensures at c.clip.ensures in
     let first = rw c.side.ensures at c.clip-d.ensures in
+    let second = rw (c.side-2.ensures, first.same) at c.clip.ensures in
     (second.same ∙ first.same, second.rest ∙ first.rest, λ long es h. second.staged _ _ (first.staged long es h))

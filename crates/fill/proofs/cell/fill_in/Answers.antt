@@ -1,5 +1,4 @@
 -- `fill::cell::fill_in` meets its contract. Assumes nothing.
-use mathlib.Core.Path.{refl}
 use Prim.Native.Nat.{◌*◌}
 use native.Mathlib.Omega.{arith}
 use lib.Ieee.{of_bits}
@@ -11,7 +10,7 @@ use Rattle.fill.specs.Answers.{half_of}
 use Rattle.fill.proofs.cell.fill_in.Goals as goal
 
 pub fill_by-answer-requires : goal.fill_by-answer-requires
-fill_by-answer-requires c = let q = c.requires in (q.0, q.1, q.2, refl)
+fill_by-answer-requires c = c.requires
 
 pub clear-requires : goal.clear-requires
 clear-requires c = rw c.fill_by-answer.ensures.1 (omega arith)

@@ -5,7 +5,6 @@ use lib.Ieee.{binary64, add, of_bits}
 use Rattle.lists.proofs.FoldLaws.{fold_run_next, fold_run_end}
 use Rattle.lists.specs.Lists.{total}
 use Rattle.fill.specs.Fill.{xdy_of}
-use borrow.Author.Rules.{rules}
 use Rattle.clip.proofs.LentLaws.{first_line}
 use Rattle.fill.proofs.cell.sum.Goals as goal
 

@@ -1,7 +1,7 @@
--- `distance::nearest::edge_near` meets its contract: the nearest so far and the edges that are left give the nearest of all. Assumes nothing.
+-- `distance::nearest::nearest_edge` meets its contract: the nearest so far and the edges that are left give the nearest of all. Assumes nothing.
 use Rattle.boundary.proofs.FieldLaws.{edge_in_field_lem}
 use Rattle.distance.proofs.SearchLaws.{found_far, searched_first, searched_next, searched_end}
-use Rattle.distance.proofs.nearest.edge_near.Goals as goal
+use Rattle.distance.proofs.nearest.nearest_edge.Goals as goal
 
 pub found-best-requires : goal.found-best-requires
 found-best-requires c =
@@ -12,7 +12,7 @@ loop-i-init c =
     let f = rw c.edge_at.ensures at c.found-best.ensures in
     let k = c in
     let s = k in
-    rw (c.first_turn-i.ensures, f.0) (searched_first s.args.v.now (record { x = s.args.x; y = s.args.y }) _ k.near_vertex-k.ensures f.1 f.2)
+    rw (c.first_turn-i.ensures, f.0) (searched_first s.args.v.now s.args.p _ k.near_vertex-k.ensures f.1 f.2)
 
 pub nearer_edge-best-requires : goal.nearer_edge-best-requires
 nearer_edge-best-requires c =

@@ -1,6 +1,0 @@
--- `distance::nearest::edge_near` meets its contract: the nearest so far and the edges that are left give the nearest of all. Assumes nothing.
-use Rattle.distance.proofs.SearchLaws.{SearchedEdges}
-use Rattle.distance.proofs.nearest.edge_near.Given as goal
-
-abbrev pub invariant-loop-i : goal.invariant-loop-i
-invariant-loop-i l = SearchedEdges l.v (record { x = l.x; y = l.y }) l.i l.best
