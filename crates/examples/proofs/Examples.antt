@@ -1,4 +1,6 @@
 -- Every starred example holds: what the definitions give is what the document says. Assumes nothing.
+use Rattle.search.specs.declared.Best.{Best}
+use Rattle.std.proofs.Common.{Some}
 use Rattle.std.proofs.Common.{Ok}
 use mathlib.Core.Path.{◌≡◌, refl, sym, ap, ◌∙◌}
 use mathlib.Core.Bool.{Bool, true, false, not}
@@ -29,7 +31,7 @@ use Rattle.accept.specs.Answers.{distance_of, distance_fields}
 use Rattle.geometry.specs.Answers.{outline_query_tested, area_answer, perimeter_answer, contains_answer, locate_answer, distance_answer}
 use Rattle.accept.specs.Area.{area_of}
 use Rattle.geometry.specs.Polygon.{contains_of, crosses_of, locate_of, on_edge}
-use Rattle.accept.specs.Refusals.{Test, all_passed, ◌refusing◌when◌, given, count_tested, values_tested, shape_tested, outline_tested}
+use Rattle.accept.specs.Refusals.{Test, all_passed, ◌refusing◌when◌, given, count_tested, values_tested, shape_tested, outline_tested, Answer}
 use Rattle.geometry.specs.Making.{closed, kept_count, kept, make_tested, coordinates_of, made_of, make_outcome}
 use Rattle.ellipse.specs.Ellipse.{offset_fits, ellipse_fits, ellipse_tested, ellipse_answer}
 use Rattle.clip.specs.Clip.{in_half_plane, crosses, part_of, parts_of, parts, lead, last_kept, rotated, kept_lines, joint, onward, joined, clip_of}
@@ -64,7 +66,7 @@ unfolding nearest_of piece_near line_near foot_of param_of along_of normal_of hy
 nearest_7 = refl
 
 -- and then its sign
-signed_at : (p : Point) (in_half_plane : Bool) (c : Near) (d : Distance) → nearest_of (edges S) p ≡ c → signed_of c p in_half_plane ≡ d → Ok (signed_of (nearest_of (edges S) p) p in_half_plane) ≡ Ok d
+signed_at : (p : Point) (in_half_plane : Bool) (c : Near) (d : Distance) → nearest_of (edges S) p ≡ c → signed_of c p in_half_plane ≡ d → ◌≡◌ {A = Answer Distance} (Ok (signed_of (nearest_of (edges S) p) p in_half_plane)) (Ok d)
 signed_at p in_half_plane c d e f = rw (e, f)
 
 signed_6 : signed_of (record { d = um 2; q = micro_point 4 2; n = record { x = um 1; y = neg (um 0) } }) (micro_point 6 2) false ≡ distance_of (um 2) (um 1) (um 0)
@@ -87,7 +89,7 @@ signed_7 : signed_of (record { d = um 5; q = micro_point 4 4; n = record { x = u
 unfolding signed_of rounding_of abs_of with_sign max_of stands_before sign_bit is_nan sub mul div neg lt eq of_int
 signed_7 = refl
 
-in_tenths : Ok (distance_of (um 5) (fin false 5404319552844595 (negsuc 52)) (fin false 3602879701896397 (negsuc 51))) ≡ Ok (distance_of (um 5) (tenths 6) (tenths 8))
+in_tenths : ◌≡◌ {A = Answer Distance} (Ok (distance_of (um 5) (fin false 5404319552844595 (negsuc 52)) (fin false 3602879701896397 (negsuc 51)))) (Ok (distance_of (um 5) (tenths 6) (tenths 8)))
 in_tenths = rw (six_tenths, eight_tenths)
 
 distance_6 : distance_answer S (micro_point 6 2) ≡ Ok (distance_of (um 2) (um 1) (um 0))
@@ -134,9 +136,9 @@ least_of_two : (D : ℕ → Float) → D 0 ≡ um 3 → D 1 ≡ um 3 → least_o
 unfolding least_of fold run lt of_int
 least_of_two D e f = rw (e, f)
 
-nearest_both : nearest_in (S ∷ S-right ∷ []) (micro_point 7 2) ≡ At (record { outline = 0; distance = um 3 })
+nearest_both : nearest_in (S ∷ S-right ∷ []) (micro_point 7 2) ≡ Some (record { outline = 0; distance = um 3 })
 unfolding nearest_in
-nearest_both = ap At (least_of_two (magnitude_at (S ∷ S-right ∷ []) (micro_point 7 2)) magnitude_left magnitude_right)
+nearest_both = ap (λ (b : Best). Some b) (least_of_two (magnitude_at (S ∷ S-right ∷ []) (micro_point 7 2)) magnitude_left magnitude_right)
 
 both_passes : set_tested both fours ≡ all_passed
 unfolding set_tested lists_tested outlines_tested ◌refusing◌when◌ outlines_of outline_at start_of any fold run edges area_of total add sub mul div neg lt le eq of_int
@@ -163,7 +165,7 @@ unfolding nearest_call nearest_outcome query_outcome given
 found_both = rw (query_passes, outlines_of_both, nearest_both, room_cleared)
 
 met : (c : Bounds) (is : List ℕ) → meeting_tested boxes c room list_places ≡ all_passed → meeting_of c (index_of boxes) ≡ is
-    → meeting_call boxes c room list_places ≡ record { answer = record { number = 0; count = length is }; lent = record { buffer = room_after; list = at_front is list_places } }
+    → meeting_call boxes c room list_places ≡ record { answer = record { number = 0; value = length is }; lent = record { buffer = room_after; list = at_front is list_places } }
 unfolding meeting_outcome listing given
 met c is t e = rw (t, e, room_cleared)
 

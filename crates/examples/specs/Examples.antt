@@ -1,4 +1,5 @@
 -- Document 01's starred examples, as one list: what each call leaves, by the definition that its contract cites, and what the document says that it leaves. Definitions only.
+use Rattle.boundary.specs.declared.Distance.{Distance}
 use Rattle.accept.specs.Refusals.{Answer}
 use Rattle.std.specs.Prelude.{◌≡◌, List, [], ◌∷◌, map, ℕ, pos, replicate, Float}
 use Rattle.std.specs.Float.{binary64}
@@ -60,7 +61,7 @@ abbrev pub boxes : List Float
 boxes = microns (0 ∷ 0 ∷ 1 ∷ 1 ∷ 10 ∷ 10 ∷ 11 ∷ 11 ∷ [])
 
 -- the nearest point of the ellipse a = 2, b = 1, centre (0, 0)
-abbrev pub on_ellipse : Point → Answer
+abbrev pub on_ellipse : Point → Answer Distance
 on_ellipse p = ellipse_answer (micro_point 0 0) (um 2) (um 1) p
 
 -- lent lists hold nines before a call
@@ -97,27 +98,27 @@ AllHold (e ∷ es) = (e.call ≡ e.said) × AllHold es
 -- In document 01's order. The number is the refusal's, or 0. The normal at (1, 2) has y = -0: inside, both coordinates are negated
 unfoldable pub starred : List Example
 starred =
-    (measure_fields (area_answer S) gives record { number = 0; measure = um 16 })
-    ∷ (measure_fields (perimeter_answer S) gives record { number = 0; measure = um 16 })
-    ∷ (make_call S-back (nines 8) gives record { answer = record { number = 0; count = 4 }; lent = microns (4 ∷ 0 ∷ 4 ∷ 4 ∷ 0 ∷ 4 ∷ 0 ∷ 0 ∷ []) })
-    ∷ (count_fields (locate_answer S (micro_point 4 2)) gives record { number = 0; count = 1 })
-    ∷ (count_fields (contains_answer S (micro_point 4 2)) gives record { number = 0; count = 0 })
-    ∷ (count_fields (locate_answer S (micro_point 0 2)) gives record { number = 0; count = 1 })
-    ∷ (count_fields (contains_answer S (micro_point 0 2)) gives record { number = 0; count = 1 })
-    ∷ (count_fields (contains_answer S (micro_point 2 0)) gives record { number = 0; count = 1 })
-    ∷ (count_fields (contains_answer S (micro_point 2 4)) gives record { number = 0; count = 0 })
-    ∷ (distance_fields (distance_answer S (micro_point 6 2)) gives record { number = 0; distance = distance_of (um 2) (um 1) (um 0) })
-    ∷ (distance_fields (distance_answer S (micro_point 1 2)) gives record { number = 0; distance = distance_of (neg (um 1)) (neg (um 1)) (neg (um 0)) })
-    ∷ (distance_fields (distance_answer S (micro_point 7 8)) gives record { number = 0; distance = distance_of (um 5) (tenths 6) (tenths 8) })
-    ∷ (fill_call S (cell 1 1 3 6) (nines 64) gives record { answer = record { number = 0; measure = um 6 }; lent = zeros zeroᶠ 64 })
-    ∷ (fill_call S (cell 5 5 6 6) (nines 64) gives record { answer = record { number = 0; measure = um 0 }; lent = zeros zeroᶠ 64 })
-    ∷ (measure_fields (area_answer (microns (0 ∷ 0 ∷ 1 ∷ 0 ∷ 2 ∷ 0 ∷ []))) gives record { number = 8; measure = um 0 })
-    ∷ (measure_fields (area_answer (microns (0 ∷ 0 ∷ 2 ∷ 2 ∷ 2 ∷ 0 ∷ 0 ∷ 2 ∷ []))) gives record { number = 8; measure = um 0 })
+    (measure_fields (area_answer S) gives record { number = 0; value = um 16 })
+    ∷ (measure_fields (perimeter_answer S) gives record { number = 0; value = um 16 })
+    ∷ (make_call S-back (nines 8) gives record { answer = record { number = 0; value = 4 }; lent = microns (4 ∷ 0 ∷ 4 ∷ 4 ∷ 0 ∷ 4 ∷ 0 ∷ 0 ∷ []) })
+    ∷ (count_fields (locate_answer S (micro_point 4 2)) gives record { number = 0; value = 1 })
+    ∷ (count_fields (contains_answer S (micro_point 4 2)) gives record { number = 0; value = 0 })
+    ∷ (count_fields (locate_answer S (micro_point 0 2)) gives record { number = 0; value = 1 })
+    ∷ (count_fields (contains_answer S (micro_point 0 2)) gives record { number = 0; value = 1 })
+    ∷ (count_fields (contains_answer S (micro_point 2 0)) gives record { number = 0; value = 1 })
+    ∷ (count_fields (contains_answer S (micro_point 2 4)) gives record { number = 0; value = 0 })
+    ∷ (distance_fields (distance_answer S (micro_point 6 2)) gives record { number = 0; value = distance_of (um 2) (um 1) (um 0) })
+    ∷ (distance_fields (distance_answer S (micro_point 1 2)) gives record { number = 0; value = distance_of (neg (um 1)) (neg (um 1)) (neg (um 0)) })
+    ∷ (distance_fields (distance_answer S (micro_point 7 8)) gives record { number = 0; value = distance_of (um 5) (tenths 6) (tenths 8) })
+    ∷ (fill_call S (cell 1 1 3 6) (nines 64) gives record { answer = record { number = 0; value = um 6 }; lent = zeros zeroᶠ 64 })
+    ∷ (fill_call S (cell 5 5 6 6) (nines 64) gives record { answer = record { number = 0; value = um 0 }; lent = zeros zeroᶠ 64 })
+    ∷ (measure_fields (area_answer (microns (0 ∷ 0 ∷ 1 ∷ 0 ∷ 2 ∷ 0 ∷ []))) gives record { number = 8; value = um 0 })
+    ∷ (measure_fields (area_answer (microns (0 ∷ 0 ∷ 2 ∷ 2 ∷ 2 ∷ 0 ∷ 0 ∷ 2 ∷ []))) gives record { number = 8; value = um 0 })
     ∷ (nearest_call both fours (micro_point 7 2) room gives record { answer = record { number = 0; found = 1; outline = 0; distance = um 3 }; lent = room_after })
-    ∷ (distance_fields (on_ellipse (record { x = um 0; y = neg (um 0) })) gives record { number = 0; distance = distance_of (um 1) (um 0) (neg (um 1)) })
-    ∷ (distance_fields (on_ellipse (micro_point 3 0)) gives record { number = 0; distance = distance_of (um 1) (um 2) (um 0) })
+    ∷ (distance_fields (on_ellipse (record { x = um 0; y = neg (um 0) })) gives record { number = 0; value = distance_of (um 1) (um 0) (neg (um 1)) })
+    ∷ (distance_fields (on_ellipse (micro_point 3 0)) gives record { number = 0; value = distance_of (um 1) (um 2) (um 0) })
     ∷ (meeting_call boxes (cell 5 5 6 6) room list_places
-    gives record { answer = record { number = 0; count = 2 }; lent = record { buffer = room_after; list = 0 ∷ 1 ∷ replicate 1022 9 } })
+    gives record { answer = record { number = 0; value = 2 }; lent = record { buffer = room_after; list = 0 ∷ 1 ∷ replicate 1022 9 } })
     ∷ (meeting_call boxes (cell 20 20 21 21) room list_places
-    gives record { answer = record { number = 0; count = 0 }; lent = record { buffer = room_after; list = list_places } })
+    gives record { answer = record { number = 0; value = 0 }; lent = record { buffer = room_after; list = list_places } })
     ∷ []
