@@ -4,7 +4,7 @@ ghost use Rattle.std.specs.Prelude.{◌≡◌};
 ghost use Rattle.accept.specs.Answers.{distance_of, distance_fields};
 ghost use Rattle.ellipse.specs.Ellipse.{ellipse_answer};
 
-use accept::answers;
+use accept::answers::fields;
 use boundary::Point;
 
 pub fn vk_ellipse_nearest(
@@ -18,7 +18,7 @@ pub fn vk_ellipse_nearest(
     nearest_y: &mut f64,
     distance: &mut f64,
 ) -> u32
-    ensures { record { number = result; distance = distance_of distance.new nearest_x.new nearest_y.new }
+    ensures { record { number = result; value = distance_of distance.new nearest_x.new nearest_y.new }
         ≡ distance_fields (ellipse_answer (record { x = centre_x; y = centre_y }) semi_x semi_y (record { x = x; y = y })) }
 {
     let c = Point {
@@ -26,9 +26,9 @@ pub fn vk_ellipse_nearest(
         y: centre_y,
     };
     let answer = ellipse::ellipse_nearest(c, semi_x, semi_y, Point { x, y });
-    let fields = answers::distance_fields(answer);
-    *nearest_x = fields.distance.v.x;
-    *nearest_y = fields.distance.v.y;
-    *distance = fields.distance.d;
-    fields.number
+    let (number, value) = fields(answer);
+    *nearest_x = value.v.x;
+    *nearest_y = value.v.y;
+    *distance = value.d;
+    number
 }

@@ -5,7 +5,7 @@ ghost use Rattle.std.specs.Prelude.{◌≡◌};
 ghost use Rattle.boundary.specs.Boxes.{cell_of};
 ghost use Rattle.fill.specs.Answers.{fill_call};
 
-use accept::answers;
+use accept::answers::fields;
 use boundary::{Bounds, Point};
 
 pub fn vk_outline_fill(
@@ -17,14 +17,14 @@ pub fn vk_outline_fill(
     work: &mut [f64],
     fill: &mut f64,
 ) -> u32
-    ensures { record { answer = record { number = result; measure = fill.new }; lent = work.new }
+    ensures { record { answer = record { number = result; value = fill.new }; lent = work.new }
         ≡ fill_call vertices.now (cell_of min_x min_y max_x max_y) work.old }
 {
     let cell = Bounds {
         min: Point { x: min_x, y: min_y },
         max: Point { x: max_x, y: max_y },
     };
-    let fields = answers::measure_fields(fill::fill(vertices, cell, work));
-    *fill = fields.measure;
-    fields.number
+    let (number, value) = fields(fill::fill(vertices, cell, work));
+    *fill = value;
+    number
 }

@@ -8,7 +8,7 @@ ghost use Rattle.index.specs.Answers.{build_call};
 ghost use Rattle.records.specs.Records.{nodes_call};
 ghost use Rattle.meeting.specs.Answers.{meeting_call};
 
-use accept::answers;
+use accept::answers::fields;
 use boundary::{Bounds, Point};
 use nodes::Node;
 
@@ -21,16 +21,15 @@ pub fn vk_index_build(
     item_count: &mut u32,
 ) -> u32
     ensures { record {
-      answer = record { number = result; nodes = node_count.new; items = item_count.new };
+      answer = record { number = result; value = record { nodes = node_count.new; items = item_count.new } };
       lent = buffer corners.new links.new items.new;
     }
         ≡ build_call boxes.now (buffer corners.old links.old items.old) }
 {
-    let built = index::new(boxes, corners, links, items);
-    let told = index::answers::build_fields(built);
-    *node_count = told.nodes;
-    *item_count = told.items;
-    told.number
+    let (number, size) = fields(index::new(boxes, corners, links, items));
+    *node_count = size.nodes;
+    *item_count = size.items;
+    number
 }
 
 // The same as node records.
@@ -44,8 +43,7 @@ pub fn vk_index_nodes(
     ensures { record {
       answer = record {
         number = result;
-        nodes = node_count.new;
-        items = item_count.new;
+        value = record { nodes = node_count.new; items = item_count.new };
       };
       lent = record {
         nodes = nodes.new;
@@ -54,9 +52,10 @@ pub fn vk_index_nodes(
     }
         ≡ nodes_call boxes.now nodes.old items.old }
 {
-    let made = records::records(boxes, nodes.len(), items, node_count, item_count);
-    records::offer(nodes, made.list, made.count);
-    made.number
+    let (number, value) = fields(records::records(boxes, nodes, items));
+    *node_count = value.nodes;
+    *item_count = value.items;
+    number
 }
 
 pub fn vk_index_meeting(
@@ -72,7 +71,7 @@ pub fn vk_index_meeting(
     count: &mut u32,
 ) -> u32
     ensures { record {
-      answer = record { number = result; count = count.new };
+      answer = record { number = result; value = count.new };
       lent = record { buffer = buffer corners.new links.new items.new; list = list.new };
     }
         ≡ meeting_call boxes.now (cell_of min_x min_y max_x max_y)
@@ -83,7 +82,7 @@ pub fn vk_index_meeting(
         max: Point { x: max_x, y: max_y },
     };
     let answer = meeting::meeting(boxes, cell, corners, links, items, list);
-    let told = answers::count_fields(answer);
-    *count = told.count;
-    told.number
+    let (number, value) = fields(answer);
+    *count = value;
+    number
 }

@@ -6,7 +6,7 @@ ghost use Rattle.any.specs.Answers.{any_call};
 ghost use Rattle.nearest.specs.Answers.{nearest_call};
 ghost use Rattle.many.specs.Answers.{lent_as, many_call};
 
-use accept::answers;
+use accept::answers::fields;
 use boundary::Point;
 
 pub fn vk_set_any_at(
@@ -19,13 +19,13 @@ pub fn vk_set_any_at(
     items: &mut [u32],
     any: &mut u32,
 ) -> u32
-    ensures { record { answer = record { number = result; count = any.new }; lent = buffer corners.new links.new items.new }
+    ensures { record { answer = record { number = result; value = any.new }; lent = buffer corners.new links.new items.new }
         ≡ any_call vertices.now counts.now (record { x = x; y = y }) (buffer corners.old links.old items.old) }
 {
     let answer = any::any_at(vertices, counts, Point { x, y }, corners, links, items);
-    let told = answers::count_fields(answer);
-    *any = told.count;
-    told.number
+    let (number, value) = fields(answer);
+    *any = value;
+    number
 }
 
 pub fn vk_set_nearest(
@@ -62,13 +62,13 @@ pub fn vk_set_nearest_many(
     distances: &mut [f64],
     found: &mut u32,
 ) -> u32
-    ensures { record { answer = record { number = result; count = found.new }; lent = lent_as corners.new links.new items.new outlines.new distances.new }
+    ensures { record { answer = record { number = result; value = found.new }; lent = lent_as corners.new links.new items.new outlines.new distances.new }
         ≡ many_call vertices.now counts.now points.now (lent_as corners.old links.old items.old outlines.old distances.old) }
 {
     let answer = many::nearest_many(
         vertices, counts, points, corners, links, items, outlines, distances,
     );
-    let told = answers::count_fields(answer);
-    *found = told.count;
-    told.number
+    let (number, value) = fields(answer);
+    *found = value;
+    number
 }

@@ -2,6 +2,8 @@
 ghost use Rattle.std.specs.Prelude.{◌≡◌};
 ghost use Rattle.gdsii.specs.Answers.{set_lent, read_call};
 
+use accept::answers::fields;
+
 // Reads a stream into a set. A refused call puts zeros into both fields and leaves both lists as they were.
 pub fn vk_gdsii_read(
     stream: &[u8],
@@ -10,11 +12,11 @@ pub fn vk_gdsii_read(
     outline_count: &mut u32,
     vertex_count: &mut u32,
 ) -> u32
-    ensures { record { answer = record { number = result; size = record { outlines = outline_count.new; vertices = vertex_count.new } }; lent = set_lent vertices.new counts.new }
+    ensures { record { answer = record { number = result; value = record { outlines = outline_count.new; vertices = vertex_count.new } }; lent = set_lent vertices.new counts.new }
         ≡ read_call stream.now (set_lent vertices.old counts.old) }
 {
-    let told = gdsii::read_fields(gdsii::read(stream, vertices, counts));
-    *outline_count = told.size.outlines;
-    *vertex_count = told.size.vertices;
-    told.number
+    let (number, size) = fields(gdsii::read(stream, vertices, counts));
+    *outline_count = size.outlines;
+    *vertex_count = size.vertices;
+    number
 }

@@ -16,7 +16,7 @@ pub extern "C" fn vk_ellipse_nearest(
     nearest_y: &mut f64,
     distance: &mut f64,
 ) -> u32
-    ensures { record { number = result; distance = distance_of distance.new nearest_x.new nearest_y.new }
+    ensures { record { number = result; value = distance_of distance.new nearest_x.new nearest_y.new }
         ≡ distance_fields (ellipse_answer (record { x = centre_x; y = centre_y }) semi_x semi_y (record { x = x; y = y })) }
 {
     viskunor::ellipses::vk_ellipse_nearest(

@@ -15,7 +15,7 @@ pub extern "C" fn vk_outline_fill(
     work: &mut [f64],
     fill: &mut f64,
 ) -> u32
-    ensures { record { answer = record { number = result; measure = fill.new }; lent = work.new }
+    ensures { record { answer = record { number = result; value = fill.new }; lent = work.new }
         ≡ fill_call vertices.now (cell_of min_x min_y max_x max_y) work.old }
 {
     viskunor::fills::vk_outline_fill(vertices, min_x, min_y, max_x, max_y, work, fill)

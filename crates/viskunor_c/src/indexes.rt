@@ -20,7 +20,7 @@ pub extern "C" fn vk_index_build(
     item_count: &mut u32,
 ) -> u32
     ensures { record {
-      answer = record { number = result; nodes = node_count.new; items = item_count.new };
+      answer = record { number = result; value = record { nodes = node_count.new; items = item_count.new } };
       lent = buffer corners.new links.new items.new;
     }
         ≡ build_call boxes.now (buffer corners.old links.old items.old) }
@@ -40,8 +40,7 @@ pub extern "C" fn vk_index_nodes(
     ensures { record {
       answer = record {
         number = result;
-        nodes = node_count.new;
-        items = item_count.new;
+        value = record { nodes = node_count.new; items = item_count.new };
       };
       lent = record {
         nodes = nodes.new;
@@ -67,7 +66,7 @@ pub extern "C" fn vk_index_meeting(
     count: &mut u32,
 ) -> u32
     ensures { record {
-      answer = record { number = result; count = count.new };
+      answer = record { number = result; value = count.new };
       lent = record { buffer = buffer corners.new links.new items.new; list = list.new };
     }
         ≡ meeting_call boxes.now (cell_of min_x min_y max_x max_y)

@@ -8,7 +8,7 @@ ghost use Rattle.geometry.specs.Making.{make_call};
 
 #[unsafe(no_mangle)]
 pub extern "C" fn vk_outline_make(vertices: &[f64], made: &mut [f64], count: &mut u32) -> u32
-    ensures { record { answer = record { number = result; count = count.new }; lent = made.new }
+    ensures { record { answer = record { number = result; value = count.new }; lent = made.new }
         ≡ make_call vertices.now made.old }
 {
     viskunor::outlines::vk_outline_make(vertices, made, count)
@@ -16,14 +16,14 @@ pub extern "C" fn vk_outline_make(vertices: &[f64], made: &mut [f64], count: &mu
 
 #[unsafe(no_mangle)]
 pub extern "C" fn vk_outline_area(vertices: &[f64], area: &mut f64) -> u32
-    ensures { record { number = result; measure = area.new } ≡ measure_fields (area_answer vertices.now) }
+    ensures { record { number = result; value = area.new } ≡ measure_fields (area_answer vertices.now) }
 {
     viskunor::outlines::vk_outline_area(vertices, area)
 }
 
 #[unsafe(no_mangle)]
 pub extern "C" fn vk_outline_perimeter(vertices: &[f64], perimeter: &mut f64) -> u32
-    ensures { record { number = result; measure = perimeter.new } ≡ measure_fields (perimeter_answer vertices.now) }
+    ensures { record { number = result; value = perimeter.new } ≡ measure_fields (perimeter_answer vertices.now) }
 {
     viskunor::outlines::vk_outline_perimeter(vertices, perimeter)
 }
@@ -36,7 +36,7 @@ pub extern "C" fn vk_outline_bounds(
     max_x: &mut f64,
     max_y: &mut f64,
 ) -> u32
-    ensures { record { number = result; bounds = cell_of min_x.new min_y.new max_x.new max_y.new }
+    ensures { record { number = result; value = cell_of min_x.new min_y.new max_x.new max_y.new }
         ≡ box_fields (bounds_answer vertices.now) }
 {
     viskunor::outlines::vk_outline_bounds(vertices, min_x, min_y, max_x, max_y)
@@ -44,14 +44,14 @@ pub extern "C" fn vk_outline_bounds(
 
 #[unsafe(no_mangle)]
 pub extern "C" fn vk_outline_contains(vertices: &[f64], x: f64, y: f64, inside: &mut u32) -> u32
-    ensures { record { number = result; count = inside.new } ≡ count_fields (contains_answer vertices.now (record { x = x; y = y })) }
+    ensures { record { number = result; value = inside.new } ≡ count_fields (contains_answer vertices.now (record { x = x; y = y })) }
 {
     viskunor::outlines::vk_outline_contains(vertices, x, y, inside)
 }
 
 #[unsafe(no_mangle)]
 pub extern "C" fn vk_outline_locate(vertices: &[f64], x: f64, y: f64, location: &mut u32) -> u32
-    ensures { record { number = result; count = location.new } ≡ count_fields (locate_answer vertices.now (record { x = x; y = y })) }
+    ensures { record { number = result; value = location.new } ≡ count_fields (locate_answer vertices.now (record { x = x; y = y })) }
 {
     viskunor::outlines::vk_outline_locate(vertices, x, y, location)
 }
@@ -65,7 +65,7 @@ pub extern "C" fn vk_outline_distance(
     normal_x: &mut f64,
     normal_y: &mut f64,
 ) -> u32
-    ensures { record { number = result; distance = distance_of distance.new normal_x.new normal_y.new }
+    ensures { record { number = result; value = distance_of distance.new normal_x.new normal_y.new }
         ≡ distance_fields (distance_answer vertices.now (record { x = x; y = y })) }
 {
     viskunor::outlines::vk_outline_distance(vertices, x, y, distance, normal_x, normal_y)

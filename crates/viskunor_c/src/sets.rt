@@ -17,7 +17,7 @@ pub extern "C" fn vk_set_any_at(
     items: &mut [u32],
     any: &mut u32,
 ) -> u32
-    ensures { record { answer = record { number = result; count = any.new }; lent = buffer corners.new links.new items.new }
+    ensures { record { answer = record { number = result; value = any.new }; lent = buffer corners.new links.new items.new }
         ≡ any_call vertices.now counts.now (record { x = x; y = y }) (buffer corners.old links.old items.old) }
 {
     viskunor::sets::vk_set_any_at(vertices, counts, x, y, corners, links, items, any)
@@ -56,7 +56,7 @@ pub extern "C" fn vk_set_nearest_many(
     distances: &mut [f64],
     found: &mut u32,
 ) -> u32
-    ensures { record { answer = record { number = result; count = found.new }; lent = lent_as corners.new links.new items.new outlines.new distances.new }
+    ensures { record { answer = record { number = result; value = found.new }; lent = lent_as corners.new links.new items.new outlines.new distances.new }
         ≡ many_call vertices.now counts.now points.now (lent_as corners.old links.old items.old outlines.old distances.old) }
 {
     viskunor::sets::vk_set_nearest_many(

@@ -11,7 +11,7 @@ pub extern "C" fn vk_gdsii_read(
     outline_count: &mut u32,
     vertex_count: &mut u32,
 ) -> u32
-    ensures { record { answer = record { number = result; size = record { outlines = outline_count.new; vertices = vertex_count.new } }; lent = set_lent vertices.new counts.new }
+    ensures { record { answer = record { number = result; value = record { outlines = outline_count.new; vertices = vertex_count.new } }; lent = set_lent vertices.new counts.new }
         ≡ read_call stream.now (set_lent vertices.old counts.old) }
 {
     viskunor::streams::vk_gdsii_read(stream, vertices, counts, outline_count, vertex_count)

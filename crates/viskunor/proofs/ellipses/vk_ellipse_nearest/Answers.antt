@@ -2,4 +2,4 @@
 use Rattle.viskunor.proofs.ellipses.vk_ellipse_nearest.Goals as goal
 
 pub returns : goal.returns
-returns c = rw (c.distance_fields-fields.ensures, c.ellipse_nearest-answer.ensures)
+returns c = rw (c.fields-number.ensures, c.ellipse_nearest-answer.ensures)

@@ -3,4 +3,4 @@ use Rattle.index.proofs.GrowLaws.{build_call_lem}
 use Rattle.viskunor.proofs.indexes.vk_index_build.Goals as goal
 
 pub returns : goal.returns
-returns c = build_call_lem _ _ c.new-built.ensures c.build_fields-told.ensures
+returns c = build_call_lem _ _ c.new.ensures c.fields-number.ensures

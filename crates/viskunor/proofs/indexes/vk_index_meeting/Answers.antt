@@ -4,4 +4,4 @@ use Rattle.accept.specs.Answers.{count_fields, in_fields}
 use Rattle.viskunor.proofs.indexes.vk_index_meeting.Goals as goal
 
 pub returns : goal.returns
-returns c = rw c.count_fields-told.ensures (ap (in_fields count_fields) c.meeting-answer.ensures)
+returns c = rw c.fields-number.ensures (ap (in_fields count_fields) c.meeting-answer.ensures)

@@ -1,9 +1,10 @@
--- `vk_index_nodes` meets its contract: the list of records has room for all nodes, and what the two calls leave is what it says. Assumes nothing.
-use Rattle.records.proofs.RecordLaws.{records_fit, records_written}
+-- `vk_index_nodes` meets its contract. Assumes nothing.
+use mathlib.Core.Path.{ap}
+use Rattle.accept.specs.Answers.{in_fields}
+use Rattle.index.specs.Answers.{build_fields_of}
+use Rattle.records.specs.Records.{nodes_call}
 use Rattle.viskunor.proofs.indexes.vk_index_nodes.Goals as goal
 
-pub offer-requires : goal.offer-requires
-offer-requires c = records_fit _ _ _ c.records-made.ensures
-
 pub returns : goal.returns
-returns c = records_written _ _ _ c.records-made.ensures c.offer.ensures
+unfolding nodes_call
+returns c = rw c.fields-number.ensures (ap (in_fields build_fields_of) c.records.ensures)

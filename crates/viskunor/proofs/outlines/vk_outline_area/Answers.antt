@@ -2,4 +2,4 @@
 use Rattle.viskunor.proofs.outlines.vk_outline_area.Goals as goal
 
 pub returns : goal.returns
-returns c = rw (c.measure_fields-fields.ensures, c.area.ensures)
+returns c = rw (c.fields-number.ensures, c.area.ensures)

@@ -2,4 +2,4 @@
 use Rattle.viskunor.proofs.outlines.vk_outline_bounds.Goals as goal
 
 pub returns : goal.returns
-returns c = rw (c.box_fields-fields.ensures, c.bounds.ensures)
+returns c = rw (c.fields-number.ensures, c.bounds.ensures)

@@ -2,4 +2,4 @@
 use Rattle.viskunor.proofs.outlines.vk_outline_contains.Goals as goal
 
 pub returns : goal.returns
-returns c = rw (c.count_fields-fields.ensures, c.contains.ensures)
+returns c = rw (c.fields-number.ensures, c.contains.ensures)

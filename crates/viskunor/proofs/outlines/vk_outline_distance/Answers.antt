@@ -2,4 +2,4 @@
 use Rattle.viskunor.proofs.outlines.vk_outline_distance.Goals as goal
 
 pub returns : goal.returns
-returns c = rw (c.distance_fields-fields.ensures, c.distance.ensures)
+returns c = rw (c.fields-number.ensures, c.distance.ensures)

@@ -2,4 +2,4 @@
 use Rattle.viskunor.proofs.outlines.vk_outline_perimeter.Goals as goal
 
 pub returns : goal.returns
-returns c = rw (c.measure_fields-fields.ensures, c.perimeter.ensures)
+returns c = rw (c.fields-number.ensures, c.perimeter.ensures)

@@ -1,4 +1,6 @@
 -- `viskunor::sets::vk_set_nearest` meets its contract. Assumes nothing.
+use Rattle.std.proofs.Common.{Option}
+use Rattle.search.specs.declared.Best.{Best}
 use Rattle.accept.specs.Refusals.{Answer}
 use mathlib.Core.Path.{ap}
 use Rattle.accept.specs.Answers.{Outcome, in_fields}
@@ -10,4 +12,4 @@ use Rattle.viskunor.proofs.sets.vk_set_nearest.Goals as goal
 pub returns : goal.returns
 unfolding nearest_call
 returns c =
-    rw c.nearest_fields-told.ensures (ap (λ (o : Outcome Nearest IndexBuffer). in_fields nearest_fields o) c.nearest_to-answer.ensures)
+    rw c.nearest_fields-told.ensures (ap (λ (o : Outcome (Answer (Option Best)) IndexBuffer). in_fields nearest_fields o) c.nearest_to-answer.ensures)

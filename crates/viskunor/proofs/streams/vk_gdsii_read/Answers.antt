@@ -5,4 +5,4 @@ use Rattle.gdsii.specs.Answers.{read_fields}
 use Rattle.viskunor.proofs.streams.vk_gdsii_read.Goals as goal
 
 pub returns : goal.returns
-returns c = rw c.read_fields-told.ensures (ap (in_fields read_fields) c.read.ensures)
+returns c = rw c.fields-number.ensures (ap (in_fields read_fields) c.read.ensures)
