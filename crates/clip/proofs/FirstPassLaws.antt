@@ -9,6 +9,7 @@ use lib.ListN.{length, get_or}
 use lib.Dec.{ltb}
 use borrow.Author.Tests.{lt-ltb, le-ltb, ltb-true, ltb-false}
 use lib.Ieee.{Float, nan}
+use Rattle.std.specs.Int.{from_bool}
 use Rattle.boundary.specs.declared.Edge.{Edge}
 use Rattle.lists.specs.Lists.{run}
 use Rattle.clip.specs.declared.HalfPlane.{HalfPlane}
@@ -19,11 +20,11 @@ use Rattle.clip.specs.Passes.{marks_between, marks_of, comes_in, start_line}
 use Rattle.clip.specs.Lent.{line_at}
 
 -- the marks of a line, from the column of its coordinate
-pub marks_of_column : (s : HalfPlane) (w : List Float) (o k : ℕ) → k ≡ cond s.y 1 0 → marks_between s (get_or w (o + k) nan) (get_or w (o + 2 + k) nan) ≡ marks_of s (line_at w o)
+pub marks_of_column : (s : HalfPlane) (w : List Float) (o k : ℕ) → k ≡ from_bool s.y → marks_between s (get_or w (o + k) nan) (get_or w (o + 2 + k) nan) ≡ marks_of s (line_at w o)
 unfolding marks_of
 marks_of_column s w o k h = rw h (by s.y)
   where
-    by : (y : Bool) → marks_between s (get_or w (o + cond y 1 0) nan) (get_or w (o + 2 + cond y 1 0) nan) ≡ marks_between s (cond y (get_or w (o + 1) nan) (get_or w o nan)) (cond y (get_or w (o + 3) nan) (get_or w (o + 2) nan))
+    by : (y : Bool) → marks_between s (get_or w (o + from_bool y) nan) (get_or w (o + 2 + from_bool y) nan) ≡ marks_between s (cond y (get_or w (o + 1) nan) (get_or w o nan)) (cond y (get_or w (o + 3) nan) (get_or w (o + 2) nan))
     by true = let e : o + 2 + 1 ≡ o + 3 = omega arith in rw e
     by false = let e : o + 0 ≡ o = omega arith in let f : o + 2 + 0 ≡ o + 2 = omega arith in rw (e, f)
 

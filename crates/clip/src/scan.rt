@@ -23,19 +23,12 @@ pub fn line_at(w: &[f64], o: usize) -> Edge
     }
 }
 
-// Where a coordinate of a point stands: y after x.
-fn column(y: bool) -> usize
-    ensures { (result ≡ cond y 1 0) × (result ≤ 1) }
-{
-    if y { 1 } else { 0 }
-}
-
-// The marks of the line that stands at o: only the coordinate that is bounded is read.
+// The marks of the line that stands at o: only the coordinate that is bounded is read, y after x.
 fn marks_at(w: &[f64], o: usize, s: HalfPlane) -> Marks
     requires { o + 4 ≤ length w.now }
     ensures { result ≡ marks_of s (line_at w.now o) }
 {
-    let k = column(s.y);
+    let k = usize::from(s.y);
     parts::between(s, w[o + k], w[o + 2 + k])
 }
 

@@ -1,4 +1,4 @@
--- Vertices outside a bound, one after the other, and the strip that a cell's two bounds of x make. Assumes nothing.
+-- The strip that a cell's two bounds of x make. Assumes nothing.
 use Rattle.accept.specs.Refusals.{all_passed}
 use mathlib.Core.Path.{◌≡◌, refl, sym, subst}
 use mathlib.Core.Bool.{Bool, true, false}
@@ -17,18 +17,6 @@ use Rattle.clip.proofs.OneSideLaws.{outside_high_inside_low}
 use Rattle.fill.specs.Fill.{low_x_of, high_x_of}
 use Rattle.fill.specs.Answers.{fill_tested}
 use Rattle.fill.proofs.TestedLaws.{fill_passed, tested_numbers, tested_box}
-
--- what holds of the numbers from i up to j, and of the next
-pub up_to_next : (P : ℕ → Type 0) (i j : ℕ) → ((k : ℕ) → i ≤ k → k ≤ j → P k) → P (j + 1) → (k : ℕ) → i ≤ k → k ≤ j + 1 → P k
-up_to_next P i j h p k a b = by (eqb k (j + 1)) refl
-  where
-    by : (c : Bool) → eqb k (j + 1) ≡ c → P k
-    by true e = subst P (sym (eqb-true k (j + 1) e)) p
-    by false e = let d = eqb-false k (j + 1) e in h k a (omega arith)
-
--- of i alone
-pub up_to_itself : (P : ℕ → Type 0) (i : ℕ) → P i → (k : ℕ) → i ≤ k → k ≤ i → P k
-up_to_itself P i p k a b = let e : i ≡ k = omega arith in subst P e p
 
 -- ---- the bounds of x of a call whose tests pass make a strip
 pub cell_strip : (v : List Float) (c : Bounds) (room : ℕ) → Doubles v → DoubleBox c → fill_tested v c room ≡ all_passed → StripOf (low_x_of c) (high_x_of c) v

@@ -4,7 +4,7 @@
 pub mod TestedLaws
 -- An outline wholly inside the cell: its fill is the sum over its own edges.
 pub mod OutlineWithin
--- Vertices in a cell, row after row.
+-- A vertex in a cell.
 pub mod WithinLaws
--- Vertices outside a bound, and the strip between the two bounds of x.
+-- The strip between the two bounds of x.
 pub mod ChordLaws

@@ -1,4 +1,4 @@
--- Vertices in a cell, row after row. Assumes nothing.
+-- A vertex in a cell. Assumes nothing.
 use mathlib.Core.Path.{◌≡◌, refl, sym, subst}
 use mathlib.Core.Bool.{Bool, true, false, ◌&&◌}
 use Prim.Native.Nat.{ℕ, ◌+◌, ◌-◌, ◌<◌}
@@ -10,17 +10,6 @@ use Rattle.lists.proofs.FoldLaws.{and_both}
 use Rattle.boundary.specs.declared.Point.{Point}
 use Rattle.boundary.specs.declared.Bounds.{Bounds}
 use Rattle.boundary.specs.Boxes.{Inside}
-
--- what holds of every number below i, and of the eight from i on
-pub eight_more : (P : ℕ → Type 0) (i : ℕ) → ((j : ℕ) → j < i → P j) → ((j : ℕ) → j < 8 → P (i + j)) → (j : ℕ) → j < i + 8 → P j
-eight_more P i h g j l = by (ltb j i) refl
-  where
-    by : (b : Bool) → ltb j i ≡ b → P j
-    by true e = h j (ltb-true j i e)
-    by false e =
-        let k = ltb-false j i e in
-        let f : i + (j - i) ≡ j = omega arith in
-        rw f at (g (j - i) (omega arith))
 
 -- the four comparisons that put a point in a cell
 pub compared_inside : (p : Point) (c : Bounds) → ((le c.min.x p.x && le p.x c.max.x) && (le c.min.y p.y && le p.y c.max.y)) ≡ true → Inside p c

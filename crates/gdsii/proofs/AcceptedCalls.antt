@@ -1,4 +1,5 @@
 -- What a call leaves: the set of the stream's outlines, accepted and on the grid, or a refusal with its lists as they were lent. Assumes nothing.
+use Rattle.gdsii.specs.declared.Size.{Size}
 use Rattle.std.proofs.Common.{Ok, Err}
 use Rattle.accept.specs.Refusals.{all_passed}
 use mathlib.Core.Path.{◌≡◌, refl, sym, ap, ap₂, ◌∙◌, subst}
@@ -27,7 +28,7 @@ use Rattle.gdsii.proofs.SetRead.{read_on_grid, read_passes}
 -- the call of the stream s with the lists L answers 0: it has read the outlines zss of the format, and their set is in its lists
 pub record ReadSet (s : List ℕ) (L : SetLent) (zss : List (List ℤ)) : Type 0 where
   pub accepted : AcceptedStream zss s
-  pub outlines : (read_call s L).answer.size.outlines ≡ length zss
+  pub outlines : (read_call s L).answer.value.outlines ≡ length zss
   pub vertices : vertices_left s L ≡ set_of zss
   pub counts : counts_left s L ≡ counts_of zss
   pub passed : set_tested (vertices_left s L) (counts_left s L) ≡ all_passed
@@ -35,7 +36,7 @@ pub record ReadSet (s : List ℕ) (L : SetLent) (zss : List (List ℤ)) : Type 0
 
 -- ---- what an accepted stream is answered, in lists that are long enough
 pub accepted_reads : (s : List ℕ) (L : SetLent) {zss : List (List ℤ)} → AcceptedStream zss s → short_set zss L ≡ false
-    → read_call s L ≡ record { answer = record { number = 0; size = set_size zss }; lent = written zss L }
+    → read_call s L ≡ record { answer = record { number = 0; value = set_size zss }; lent = written zss L }
 unfolding read_with
 accepted_reads s L {zss} a h = rw (holds_accepted s zss a, h)
 
@@ -45,10 +46,10 @@ unfolding at_front
 front_taken xs out n e = take_at xs (drop (length xs) out) n e
 
 abbrev front_vertices : Outcome (Fields Size) SetLent → List Float
-front_vertices o = take (2 * o.answer.size.vertices) o.lent.vertices
+front_vertices o = take (2 * o.answer.value.vertices) o.lent.vertices
 
 abbrev front_counts : Outcome (Fields Size) SetLent → List ℕ
-front_counts o = take o.answer.size.outlines o.lent.counts
+front_counts o = take o.answer.value.outlines o.lent.counts
 
 set_left : (s : List ℕ) (L : SetLent) {zss : List (List ℤ)} → AcceptedStream zss s → short_set zss L ≡ false → ReadSet s L zss
 set_left s L {zss} a h =
@@ -57,7 +58,7 @@ set_left s L {zss} a h =
     let c : counts_left s L ≡ counts_of zss = ap front_counts e ∙ front_taken (counts_of zss) L.counts (length zss) (length_counts zss) in
     record {
       accepted = a;
-      outlines = ap (λ (o : Outcome (Fields Size) SetLent). o.answer.size.outlines) e;
+      outlines = ap (λ (o : Outcome (Fields Size) SetLent). o.answer.value.outlines) e;
       vertices = v;
       counts = c;
       passed = ap₂ set_tested v c ∙ read_passes a;
@@ -90,12 +91,12 @@ call_reads s L e = let h = call_accepted s L e in (h.0, set_left s L h.1 h.2)
 
 -- a refusal leaves the lists as they were lent, and zeros
 pub refused_untouched : (s : List ℕ) (L : SetLent) → ((read_call s L).answer.number ≡ 0 → ⊥)
-    → ((read_call s L).lent ≡ L) × ((read_call s L).answer.size ≡ record { outlines = 0; vertices = 0 })
+    → ((read_call s L).lent ≡ L) × ((read_call s L).answer.value ≡ record { outlines = 0; vertices = 0 })
 unfolding read_with
 refused_untouched s L = go (reading s)
   where
     untouched : Outcome (Fields Size) SetLent → Type 0
-    untouched o = (o.lent ≡ L) × (o.answer.size ≡ record { outlines = 0; vertices = 0 })
+    untouched o = (o.lent ≡ L) × (o.answer.value ≡ record { outlines = 0; vertices = 0 })
 
     short : (zss : List (List ℤ)) (b : Bool) → ((answered_if b zss L).answer.number ≡ 0 → ⊥) → untouched (answered_if b zss L)
     short zss true n = (refl, refl)

@@ -78,22 +78,22 @@ refused_failed (Ok _) k r e = absurd (let z : ◌≡◌ {A = ℕ} 0 1 = cc in om
 refused_failed (Err q) k r e = let h : q ≡ r = cc in rw h
 
 -- ---- the signs with one more
-signs_more : (zss : List (List ℤ)) (zs : List ℤ) (S : List ℕ) → Signs zss S → length zss < length S → Signs (zss ++ zs ∷ []) (set S (length zss) (sign_of zs))
+signs_more : (zss : List (List ℤ)) (zs : List ℤ) (S : List Bool) → Signs zss S → length zss < length S → Signs (zss ++ zs ∷ []) (set S (length zss) (sign_of zs))
 signs_more zss zs S h l = record { each = λ k m. go k m (eqb k (length zss)) refl }
   where
     before : (k n : ℕ) → k < n + 1 → (k ≡ n → ⊥) → k < n
     before k n l d = omega arith
 
-    go : (k : ℕ) → k < length (zss ++ zs ∷ []) → (b : Bool) → eqb k (length zss) ≡ b → get_or (set S (length zss) (sign_of zs)) k 0 ≡ sign_of (get_or (zss ++ zs ∷ []) k [])
-    go k m true e = rw (eqb-true k (length zss) e, get_or-set_same S (length zss) (sign_of zs) 0 l, get_or-append_seam zss zs [] [])
+    go : (k : ℕ) → k < length (zss ++ zs ∷ []) → (b : Bool) → eqb k (length zss) ≡ b → get_or (set S (length zss) (sign_of zs)) k false ≡ sign_of (get_or (zss ++ zs ∷ []) k [])
+    go k m true e = rw (eqb-true k (length zss) e, get_or-set_same S (length zss) (sign_of zs) false l, get_or-append_seam zss zs [] [])
     go k m false e =
         let n = length_more zss zs in
         let d = eqb-false k (length zss) e in
         let q = before k (length zss) (omega arith) d in
-        get_or-set_other S (length zss) k (sign_of zs) 0 d ∙ h.each k q ∙ ap sign_of (sym (get_or-append zss (zs ∷ []) [] k q))
+        get_or-set_other S (length zss) k (sign_of zs) false d ∙ h.each k q ∙ ap sign_of (sym (get_or-append zss (zs ∷ []) [] k q))
 
 -- ---- where the pass stands
-pub record Measuring (s : List ℕ) (asked : Awaited) (at : ℕ) (so : Size) (S : List ℕ) : Type 0 where
+pub record Measuring (s : List ℕ) (asked : Awaited) (at : ℕ) (so : Size) (S : List Bool) : Type 0 where
   pub past : List (List ℤ)
   pub fuel : ℕ
   pub within : at ≤ length s
@@ -104,12 +104,12 @@ pub record Measuring (s : List ℕ) (asked : Awaited) (at : ℕ) (so : Size) (S 
   pub signs : Signs past S
   pub places : length S ≡ 1024
 
-pub begins_measuring : (s S : List ℕ) → length S ≡ 1024 → Measuring s Header 0 (record { outlines = 0; vertices = 0 }) S
+pub begins_measuring : (s : List ℕ) (S : List Bool) → length S ≡ 1024 → Measuring s Header 0 (record { outlines = 0; vertices = 0 }) S
 unfolding reading set_of
 begins_measuring s S h =
     record { past = []; fuel = suc (length s); within = omega arith; enough = omega arith; left = refl; size = refl; small = none_small; signs = record { each = λ k l. absurd (omega arith) }; places = h }
 
-module _ {s : List ℕ} {asked : Awaited} {at : ℕ} {so : Size} {S : List ℕ} (m : Measuring s asked at so S) where
+module _ {s : List ℕ} {asked : Awaited} {at : ℕ} {so : Size} {S : List Bool} (m : Measuring s asked at so S) where
   pub sizes : (so.outlines ≤ 1024) × (so.vertices ≤ 65536)
   sizes = rw m.size (m.small.outlines, m.small.vertices)
 
@@ -127,18 +127,18 @@ module _ {s : List ℕ} {asked : Awaited} {at : ℕ} {so : Size} {S : List ℕ} 
     next : Next m.fuel asked m.past (drop at s) (reading s)
     next = let l = m.enough in one_record m.fuel (omega arith) more m.left
 
-    refuses : {r : Refusal} → all_tested then m.past (drop at s) ≡ Err r → (S' : List ℕ) → (Err r ≡ measured (reading s)) × SignsOf (reading s) S'
+    refuses : {r : Refusal} → all_tested then m.past (drop at s) ≡ Err r → (S' : List Bool) → (Err r ≡ measured (reading s)) × SignsOf (reading s) S'
     refuses {r} e S' =
         let h : turned_down r ≡ reading s = sym (given_failed e _ _) ∙ next.read in
         (ap measured h, λ zss q. absurd (down_not_held r zss (h ∙ q)))
 
     -- too few bytes are left for a record
-    pub none_refuses : length s - at < 4 → (S' : List ℕ) → (Err BadRecord ≡ measured (reading s)) × SignsOf (reading s) S'
+    pub none_refuses : length s - at < 4 → (S' : List Bool) → (Err BadRecord ≡ measured (reading s)) × SignsOf (reading s) S'
     unfolding all_tested
     none_refuses l = refuses (given_failed (none_left (drop at s) then (let n = length-drop at s in omega arith)) _ _)
 
     -- the record is refused
-    pub record_refuses : {r : Refusal} → record_read then so (drop at s) ≡ Err r → (S' : List ℕ) → (Err r ≡ measured (reading s)) × SignsOf (reading s) S'
+    pub record_refuses : {r : Refusal} → record_read then so (drop at s) ≡ Err r → (S' : List Bool) → (Err r ≡ measured (reading s)) × SignsOf (reading s) S'
     record_refuses {r} e = refuses (refused_failed _ _ r (sym (record_read_lem then m.past (drop at s)) ∙ ap (λ (z : Size). record_read then z (drop at s)) (sym m.size) ∙ e))
 
     -- the record is read
@@ -150,7 +150,7 @@ module _ {s : List ℕ} {asked : Awaited} {at : ℕ} {so : Size} {S : List ℕ} 
       tests = tests_passed then m.past (drop at s) both.0
 
       -- with the record's outline the set is within its sizes, and its sign is put
-      joined : (S' : List ℕ) → S' ≡ with_record_sign so (drop at s) S → Small (with_record m.past (drop at s)) × Signs (with_record m.past (drop at s)) S' × (length S' ≡ 1024)
+      joined : (S' : List Bool) → S' ≡ with_record_sign so (drop at s) S → Small (with_record m.past (drop at s)) × Signs (with_record m.past (drop at s)) S' × (length S' ≡ 1024)
       unfolding with_record with_record_sign
       joined S' q = go (eqb (record_type (drop at s)) XY) refl tests.1 q
         where
@@ -167,7 +167,7 @@ module _ {s : List ℕ} {asked : Awaited} {at : ℕ} {so : Size} {S : List ℕ} 
               let p = m.places in
               rw (q, m.size) (k, signs_more m.past zs S m.signs (omega arith), length-set S (length m.past) (sign_of zs) ∙ p)
 
-      pub advances : {S' : List ℕ} → S' ≡ with_record_sign so (drop at s) S → Measuring s then (at + n) so' S'
+      pub advances : {S' : List Bool} → S' ≡ with_record_sign so (drop at s) S → Measuring s then (at + n) so' S'
       advances {S'} q =
           let h = passed_whole s at t n then A tests.0 in
           let l = m.enough in
@@ -187,25 +187,25 @@ module _ {s : List ℕ} {asked : Awaited} {at : ℕ} {so : Size} {S : List ℕ} 
           }
 
 -- ---- a record is read, and r is found
-pub record Turn (s : List ℕ) (asked : Awaited) (at : ℕ) (so : Size) (S : List ℕ) (t n : ℕ) (next : Awaited) (r : Answer Size) : Type 0 where
+pub record Turn (s : List ℕ) (asked : Awaited) (at : ℕ) (so : Size) (S : List Bool) (t n : ℕ) (next : Awaited) (r : Answer Size) : Type 0 where
   pub stands : Measuring s asked at so S
   pub more : at_end asked ≡ false
   pub here : AtRecord s at t n
   pub asks : next ≡ asked_after asked t
   pub gives : r ≡ record_read next so (drop at s)
 
-module _ {s : List ℕ} {asked : Awaited} {at : ℕ} {so : Size} {S : List ℕ} {t n : ℕ} {next : Awaited} {r : Answer Size} (u : Turn s asked at so S t n next r) where
+module _ {s : List ℕ} {asked : Awaited} {at : ℕ} {so : Size} {S : List Bool} {t n : ℕ} {next : Awaited} {r : Answer Size} (u : Turn s asked at so S t n next r) where
   asks_for : next ≡ asked_after asked (record_type (drop at s))
   asks_for = u.asks ∙ ap (asked_after asked) u.here.type
 
   given_by : record_read (asked_after asked (record_type (drop at s))) so (drop at s) ≡ r
   given_by = ap (λ (a : Awaited). record_read a so (drop at s)) (sym asks_for) ∙ sym u.gives
 
-  pub turn_refuses : {q : Refusal} → r ≡ Err q → (S' : List ℕ) → (Err q ≡ measured (reading s)) × SignsOf (reading s) S'
+  pub turn_refuses : {q : Refusal} → r ≡ Err q → (S' : List Bool) → (Err q ≡ measured (reading s)) × SignsOf (reading s) S'
   turn_refuses e S' = record_refuses u.stands u.more (given_by ∙ e) S'
 
   pub turn_forward : {z : Size} → r ≡ Ok z → (4 ≤ n) × (n ≤ length s - at)
   turn_forward e = passed_whole s at t n (asked_after asked (record_type (drop at s))) u.here (tests u.stands u.more u.here (given_by ∙ e)).0
 
-  pub turn_advances : {z : Size} {S' : List ℕ} → r ≡ Ok z → S' ≡ with_record_sign so (drop at s) S → Measuring s next (at + n) z S'
+  pub turn_advances : {z : Size} {S' : List Bool} → r ≡ Ok z → S' ≡ with_record_sign so (drop at s) S → Measuring s next (at + n) z S'
   turn_advances {z} {S'} e q = subst (λ (a : Awaited). Measuring s a (at + n) z S') (sym asks_for) (advances u.stands u.more u.here (given_by ∙ e) q)

@@ -50,7 +50,7 @@ module _ (s : List ℕ) (L : SetLent) (n : Size) (h : FoundSet (reading s) n) wh
   call_short e = rw (h.read, short_is, e)
 
   module _ (room : too_short ≡ false) where
-    pub has_room : {S : List ℕ} → SignsOf (reading s) S → RoomForSet s n.outlines S L
+    pub has_room : {S : List Bool} → SignsOf (reading s) S → RoomForSet s n.outlines S L
     has_room g =
         let k = or_none (ltb (length L.vertices) (2 * n.vertices)) (ltb (length L.counts) n.outlines) room in
         let a = ltb-false (length L.vertices) (2 * n.vertices) k.0 in

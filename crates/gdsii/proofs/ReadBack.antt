@@ -175,7 +175,7 @@ module _ (zss : List (List ℤ)) (a : Every AsMade zss) (few : length zss ≤ 10
   -- the call leaves the set at the front of the lists that it is lent
   pub call_back : (L : SetLent) → length (flat_map numbers_of zss) ≤ length L.vertices → length zss ≤ length L.counts
       → read_call (plain_stream zss) L ≡ record {
-        answer = record { number = 0; size = record { outlines = length zss; vertices = length (flat_map numbers_of zss) / 2 } };
+        answer = record { number = 0; value = record { outlines = length zss; vertices = length (flat_map numbers_of zss) / 2 } };
         lent = set_lent (at_front (flat_map numbers_of zss) L.vertices) (at_front (map (λ zs. length zs / 2) zss) L.counts);
       }
   unfolding read_with

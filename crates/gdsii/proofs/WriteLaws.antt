@@ -34,12 +34,8 @@ use Rattle.gdsii.proofs.PlaceLaws.{passed_whole, after_at, outline_room, outline
 use Rattle.gdsii.proofs.TurnLaws.{same_held, down_not_held, nothing_left, Next, one_record, tests_passed}
 use Rattle.gdsii.proofs.Sound.{sound}
 
-pub sign_back : (b : Bool) → eqb (cond b 1 0) 1 ≡ b
-sign_back true = refl
-sign_back false = refl
-
 -- ---- where the pass stands: X and C are the lists, X₀ and C₀ as they were lent
-pub record Writing (s : List ℕ) (n : ℕ) (S : List ℕ) (X₀ : List Float) (C₀ : List ℕ) (at : ℕ) (so : Size) (X : List Float) (C : List ℕ) : Type 0 where
+pub record Writing (s : List ℕ) (n : ℕ) (S : List Bool) (X₀ : List Float) (C₀ : List ℕ) (at : ℕ) (so : Size) (X : List Float) (C : List ℕ) : Type 0 where
   pub room : RoomForSet s n S (set_lent X₀ C₀)
   pub asked : Awaited
   pub past : List (List ℤ)
@@ -51,7 +47,7 @@ pub record Writing (s : List ℕ) (n : ℕ) (S : List ℕ) (X₀ : List Float) (
   pub vertices : X ≡ sets X₀ 0 (set_of past)
   pub counts : C ≡ sets C₀ 0 (counts_of past)
 
-pub begins_writing : (s : List ℕ) (n : ℕ) (S : List ℕ) (X₀ : List Float) (C₀ : List ℕ) → RoomForSet s n S (set_lent X₀ C₀) → Writing s n S X₀ C₀ 0 (record { outlines = 0; vertices = 0 }) X₀ C₀
+pub begins_writing : (s : List ℕ) (n : ℕ) (S : List Bool) (X₀ : List Float) (C₀ : List ℕ) → RoomForSet s n S (set_lent X₀ C₀) → Writing s n S X₀ C₀ 0 (record { outlines = 0; vertices = 0 }) X₀ C₀
 unfolding reading set_of counts_of
 begins_writing s n S X₀ C₀ r =
     record { room = r; asked = Header; past = []; fuel = suc (length s); within = omega arith; enough = omega arith; left = r.read; size = refl; vertices = refl; counts = refl }
@@ -65,7 +61,7 @@ unfolding given
 passed_held (Ok _) r zss e = refl
 passed_held (Err q) r zss e = absurd (down_not_held q zss e)
 
-module _ {s : List ℕ} {n : ℕ} {S : List ℕ} {X₀ : List Float} {C₀ : List ℕ} {at : ℕ} {so : Size} {X : List Float} {C : List ℕ} (w : Writing s n S X₀ C₀ at so X C) where
+module _ {s : List ℕ} {n : ℕ} {S : List Bool} {X₀ : List Float} {C₀ : List ℕ} {at : ℕ} {so : Size} {X : List Float} {C : List ℕ} (w : Writing s n S X₀ C₀ at so X C) where
   abbrev all : List (List ℤ)
   all = w.room.outlines
 
@@ -182,12 +178,12 @@ module _ {s : List ℕ} {n : ℕ} {S : List ℕ} {X₀ : List Float} {C₀ : Lis
             let r = sound next.fuel then (with_record w.past (drop at s)) (drop (at + k) s) all rest_read in
             (r.rest, r.whole ∙ ap (λ (z : List (List ℤ)). z ++ r.rest) longer)
 
-        its_sign : get_or S so.outlines 0 ≡ sign_of zs
+        its_sign : get_or S so.outlines false ≡ sign_of zs
         its_sign =
             let a : all ≡ w.past ++ zs ∷ others.0 = others.1 ∙ append_assoc w.past (zs ∷ []) others.0 in
             let l = ap length a in
             let m = length-append w.past (zs ∷ others.0) in
-            ap (λ (z : Size). get_or S z.outlines 0) w.size
+            ap (λ (z : Size). get_or S z.outlines false) w.size
             ∙ w.room.signs.each (length w.past) (omega arith)
             ∙ ap (λ (z : List (List ℤ)). sign_of (get_or z (length w.past) [])) a
             ∙ ap sign_of (get_or-append_seam w.past zs others.0 [])

@@ -3,8 +3,8 @@ use Rattle.std.specs.Prelude.{Bool, cond, ◌||◌, List, ℕ, ◌*◌, ltb, ℤ
 use Rattle.lists.specs.Lists.{at_front}
 use Rattle.boundary.specs.Outline.{count}
 use Rattle.accept.specs.declared.Refusal.TheVariants.{ShortBuffer}
-use Rattle.accept.specs.Answers.{Outcome, in_fields, Fields}
-use Rattle.accept.specs.Refusals.{Answer, number}
+use Rattle.accept.specs.Answers.{Fields, fields_of, Outcome, in_fields}
+use Rattle.accept.specs.Refusals.{Answer}
 use Rattle.gdsii.specs.declared.Size.{Size}
 use Rattle.gdsii.specs.Reading.{set_of, counts_of, Reading, turned_down, read_as, reading}
 
@@ -44,16 +44,18 @@ abbrev pub read_outcome : List ℕ → SetLent → Outcome (Answer Size) SetLent
 read_outcome s L = read_with (reading s) L
 
 -- the same as a call leaves it: a refusal gives its number and zeros
-abbrev pub read_fields : Answer Size → (Fields Size)
-read_fields (Err r) = record { number = number r; size = record { outlines = 0; vertices = 0 } }
-read_fields (Ok n) = record { number = 0; size = n }
+abbrev pub no_set : Size
+no_set = record { outlines = 0; vertices = 0 }
+
+abbrev pub read_fields : Answer Size → Fields Size
+read_fields a = fields_of no_set a
 
 abbrev pub read_call : List ℕ → SetLent → Outcome (Fields Size) SetLent
 read_call s L = in_fields read_fields (read_outcome s L)
 
 -- the set in the lists that a call leaves: the first 2 x vertex_count numbers, the first outline_count counts
 abbrev pub vertices_left : List ℕ → SetLent → List Float
-vertices_left s L = take (2 * (read_call s L).answer.size.vertices) (read_call s L).lent.vertices
+vertices_left s L = take (2 * (read_call s L).answer.value.vertices) (read_call s L).lent.vertices
 
 abbrev pub counts_left : List ℕ → SetLent → List ℕ
-counts_left s L = take (read_call s L).answer.size.outlines (read_call s L).lent.counts
+counts_left s L = take (read_call s L).answer.value.outlines (read_call s L).lent.counts

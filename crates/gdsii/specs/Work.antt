@@ -1,5 +1,5 @@
 -- What the two passes over a stream keep to. Definitions only.
-use Rattle.std.specs.Prelude.{◌≡◌, cond, ◌||◌, List, [], ℕ, ◌+◌, ◌*◌, ◌≤◌, ◌<◌, eqb, ltb, ℤ, length, drop, get_or, set, Ok, Err}
+use Rattle.std.specs.Prelude.{◌≡◌, Bool, false, cond, ◌||◌, List, [], ℕ, ◌+◌, ◌*◌, ◌≤◌, ◌<◌, eqb, ltb, ℤ, length, drop, get_or, set, Ok, Err}
 use Rattle.std.proofs.lemmas.List.Edits.{sets}
 use Rattle.accept.specs.declared.Refusal.TheVariants.{TooMany}
 use Rattle.accept.specs.Refusals.{Answer, all_passed, given, negative_area}
@@ -33,19 +33,19 @@ outline_read so zs = given (xy_tested zs) (grown_by so (made_count zs)) Err
 unfoldable pub record_read : Awaited → Size → List ℕ → Answer Size
 record_read then so s = given (record_tested then s) (cond (eqb (record_type s) XY) (outline_read so (steps_in (record_data s))) (Ok so)) Err
 
--- ---- the signs: 1 where an outline is to be reversed
-abbrev pub sign_of : List ℤ → ℕ
-sign_of zs = cond (negative_area (kept (numbers_of zs))) 1 0
+-- ---- the signs: whether an outline is to be reversed
+abbrev pub sign_of : List ℤ → Bool
+sign_of zs = negative_area (kept (numbers_of zs))
 
 -- with that of the record that s opens with
-unfoldable pub with_record_sign : Size → List ℕ → List ℕ → List ℕ
+unfoldable pub with_record_sign : Size → List ℕ → List Bool → List Bool
 with_record_sign so s S = cond (eqb (record_type s) XY) (set S so.outlines (sign_of (steps_in (record_data s)))) S
 
 -- those of the outlines zss
-pub record Signs (zss : List (List ℤ)) (S : List ℕ) : Type 0 where
-  pub each : (k : ℕ) → k < length zss → get_or S k 0 ≡ sign_of (get_or zss k [])
+pub record Signs (zss : List (List ℤ)) (S : List Bool) : Type 0 where
+  pub each : (k : ℕ) → k < length zss → get_or S k false ≡ sign_of (get_or zss k [])
 
-abbrev pub SignsOf : Reading → List ℕ → Type 0
+abbrev pub SignsOf : Reading → List Bool → Type 0
 SignsOf r S = (zss : List (List ℤ)) → r ≡ read_as zss → Signs zss S
 
 -- ---- where the passes are
@@ -62,16 +62,16 @@ abbrev pub written_at : Size → List ℤ → SetLent → SetLent
 written_at so zs L = set_lent (sets L.vertices (2 * so.vertices) (made_of (numbers_of zs))) (set L.counts so.outlines (made_count zs))
 
 -- n vertices from a place on pass the tests, their sign is known, and both lists have room for their outline there
-pub record Joins (s : List ℕ) (from n : ℕ) (so : Size) (S : List ℕ) (L : SetLent) : Type 0 where
+pub record Joins (s : List ℕ) (from n : ℕ) (so : Size) (S : List Bool) (L : SetLent) : Type 0 where
   pub within : from + 8 * n ≤ length s
   pub passed : xy_tested (steps_from s from n) ≡ all_passed
-  pub sign : get_or S so.outlines 0 ≡ sign_of (steps_from s from n)
+  pub sign : get_or S so.outlines false ≡ sign_of (steps_from s from n)
   pub few : so.outlines < 1024
   pub small : so.vertices ≤ 65536
   pub wide : 2 * so.vertices + length (made_of (numbers_of (steps_from s from n))) ≤ length L.vertices
 
 -- the stream is accepted, with n outlines, their signs are known, and both lists have room for the set
-pub record RoomForSet (s : List ℕ) (n : ℕ) (S : List ℕ) (L : SetLent) : Type 0 where
+pub record RoomForSet (s : List ℕ) (n : ℕ) (S : List Bool) (L : SetLent) : Type 0 where
   pub outlines : List (List ℤ)
   pub many : n ≡ length outlines
   pub read : reading s ≡ read_as outlines

@@ -1,19 +1,19 @@
 // Reading a GDSII stream: it is read twice, first to judge and measure it, then to write the set that it holds.
 #![tactic(auto)]
 
-ghost use Rattle.std.specs.Prelude.{◌≡◌, true, cond, ◌&&◌, ◌+◌, ◌*◌, ◌≤◌, eqb, length, drop, set};
+ghost use Rattle.std.specs.Prelude.{◌≡◌, true, ◌&&◌, ◌+◌, ◌*◌, ◌≤◌, eqb, length, drop, set};
 ghost use Rattle.stream.specs.Format.{UNITS};
 ghost use Rattle.stream.specs.Records.{other_unit};
 ghost use Rattle.xy.specs.Outlines.{steps_from};
 ghost use Rattle.gdsii.specs.declared.Size.{Size};
-ghost use Rattle.gdsii.specs.declared.Judged.TheVariants.{Found};
 ghost use Rattle.gdsii.specs.Reading.{record_tested, reading};
-ghost use Rattle.gdsii.specs.Answers.{measured, set_lent, read_fields, read_outcome};
+ghost use Rattle.gdsii.specs.Answers.{no_set, measured, set_lent, read_outcome};
 ghost use Rattle.gdsii.specs.Work.{AtRecord, Joins, RoomForSet, Wrote, SignsOf, sign_of, with_record_sign, size_with, grown_by, outline_read, record_read, written_at};
 
-use accept::{Refusal, Test, refusals};
+use accept::Refusal;
+use accept::answers::Zeros;
+use accept::refusals::refuse_when;
 use stream::Awaited;
-use xy::Made;
 
 // How many outlines and vertices a set has.
 #[derive(Clone, Copy)]
@@ -22,18 +22,15 @@ pub struct Size {
     pub vertices: u32,
 }
 
-// What a stream is answered: why it is turned away, or the size of the set that it holds.
-#[derive(Clone, Copy)]
-pub enum Judged {
-    Refused(Refusal),
-    Found(Size),
-}
+impl Zeros for Size {
+    ghost zeros = { no_set };
 
-// The fields of the answer: what the call returns, and what it puts into the fields that it is lent.
-#[derive(Drop)]
-pub struct ReadFields {
-    pub number: u32,
-    pub size: Size,
+    fn zeros() -> Size {
+        Size {
+            outlines: 0,
+            vertices: 0,
+        }
+    }
 }
 
 // Whether a record of type t with data from a place on is a UNITS of another unit.
@@ -48,53 +45,49 @@ fn is_other_unit(s: &[u8], from: usize, t: usize) -> bool
 }
 
 // What tests 16 and 17 say of the record at a place, where `then` is asked for after its type t.
-fn record_tested(s: &[u8], at: usize, then: Awaited, t: usize, size: usize) -> Test
+fn record_tested(s: &[u8], at: usize, then: Awaited, t: usize, size: usize) -> Result<(), Refusal>
     requires { AtRecord s.now at t size }
     ensures { result ≡ record_tested then (drop at s.now) }
 {
     if (size < 4) | (s.len() - at < size) {
-        return Test::Failed(Refusal::BadRecord);
+        return Err(Refusal::BadRecord);
     }
     if stream::is_astray(then) | stream::misfits(t, size - 4) {
-        return Test::Failed(Refusal::BadRecord);
+        return Err(Refusal::BadRecord);
     }
     let other = is_other_unit(s, at + 4, t);
-    refusals::refusing(Test::Passed, Refusal::OtherUnit, other)
+    refuse_when(other, Refusal::OtherUnit)
 }
 
 // The size of a set with one outline more, of n vertices.
-fn grown(done: Size, n: u32) -> Judged
+fn grown(done: Size, n: u32) -> Result<Size, Refusal>
     requires { (done.outlines ≤ 1024) × (done.vertices ≤ 65536) × (n ≤ 4096) }
     ensures { result ≡ grown_by done n }
 {
     let outlines = done.outlines + 1;
     let vertices = done.vertices + n;
     if (1024 < outlines) | (65536 < vertices) {
-        return Judged::Refused(Refusal::TooMany);
+        return Err(Refusal::TooMany);
     }
-    Judged::Found(Size { outlines, vertices })
-}
-
-fn sign_of(reversed: bool) -> u32
-    ensures { result ≡ cond reversed 1 0 }
-{
-    if reversed { 1 } else { 0 }
+    Ok(Size { outlines, vertices })
 }
 
 // The size of a set with the outline of n vertices from a place on. Whether the outline is to be reversed is put
 // to the signs.
-fn outline_read(s: &[u8], from: usize, n: usize, done: Size, signs: &mut [u32]) -> Judged
+fn outline_read(
+    s: &[u8],
+    from: usize,
+    n: usize,
+    done: Size,
+    signs: &mut [bool],
+) -> Result<Size, Refusal>
     requires { (from + 8 * n ≤ length s.now) × (done.outlines ≤ 1024) × (done.vertices ≤ 65536) }
     ensures value { result ≡ outline_read done (steps_from s.now from n) }
-    ensures signs_after { (z : Size) → result ≡ Found z → signs.new ≡ set signs.old done.outlines (sign_of (steps_from s.now from n)) }
+    ensures signs_after { (z : Size) → result ≡ Ok z → signs.new ≡ set signs.old done.outlines (sign_of (steps_from s.now from n)) }
 {
-    match xy::xy_tested(s, from, n) {
-        Made::Whole(m) => {
-            lists::put(signs, done.outlines as usize, sign_of(m.reversed));
-            grown(done, m.vertices)
-        }
-        Made::Unmade(r) => Judged::Refused(r),
-    }
+    let makings = xy::xy_tested(s, from, n)?;
+    lists::put(signs, done.outlines as usize, makings.reversed);
+    grown(done, makings.vertices)
 }
 
 // The size of the set after the record at a place, and its sign where it is an outline.
@@ -105,25 +98,21 @@ fn record_read(
     t: usize,
     size: usize,
     done: Size,
-    signs: &mut [u32],
-) -> Judged
+    signs: &mut [bool],
+) -> Result<Size, Refusal>
     requires { AtRecord s.now at t size × (done.outlines ≤ 1024) × (done.vertices ≤ 65536) }
     ensures value { result ≡ record_read then done (drop at s.now) }
-    ensures signs_after { (z : Size) → result ≡ Found z → signs.new ≡ with_record_sign done (drop at s.now) signs.old }
+    ensures signs_after { (z : Size) → result ≡ Ok z → signs.new ≡ with_record_sign done (drop at s.now) signs.old }
 {
-    match record_tested(s, at, then, t, size) {
-        Test::Passed => {
-            if t == 0x1003 {
-                return outline_read(s, at + 4, (size - 4) / 8, done, signs);
-            }
-            Judged::Found(done)
-        }
-        Test::Failed(r) => Judged::Refused(r),
+    record_tested(s, at, then, t, size)?;
+    if t == 0x1003 {
+        return outline_read(s, at + 4, (size - 4) / 8, done, signs);
     }
+    Ok(done)
 }
 
 // The size of the set that a stream holds, or why it is turned away; and the signs of its outlines.
-fn measure(s: &[u8], signs: &mut [u32]) -> Judged
+fn measure(s: &[u8], signs: &mut [bool]) -> Result<Size, Refusal>
     requires { length signs.old ≡ 1024 }
     ensures { (result ≡ measured (reading s.now)) × SignsOf (reading s.now) signs.new }
 {
@@ -135,23 +124,16 @@ fn measure(s: &[u8], signs: &mut [u32]) -> Judged
     };
     while !stream::is_at_end(asked) {
         if s.len() - at < 4 {
-            return Judged::Refused(Refusal::BadRecord);
+            return Err(Refusal::BadRecord);
         }
         let size = stream::pair_at(s, at);
         let t = stream::pair_at(s, at + 2);
         let then = stream::asked_after(asked, t);
-        match record_read(s, at, then, t, size, done, signs) {
-            Judged::Found(n) => {
-                done = n;
-            }
-            Judged::Refused(r) => {
-                return Judged::Refused(r);
-            }
-        }
+        done = record_read(s, at, then, t, size, done, signs)?;
         asked = then;
         at += size;
     }
-    Judged::Found(done)
+    Ok(done)
 }
 
 // Writes the outline of n vertices from a place on where the set so far ends, and its vertex count: the size
@@ -161,7 +143,7 @@ fn write_outline(
     from: usize,
     n: usize,
     done: Size,
-    signs: &[u32],
+    signs: &[bool],
     vertices: &mut [f64],
     counts: &mut [u32],
 ) -> Size
@@ -170,7 +152,7 @@ fn write_outline(
     ensures set_after { set_lent vertices.new counts.new ≡ written_at done (steps_from s.now from n) (set_lent vertices.old counts.old) }
 {
     let at = 2 * (done.vertices as usize);
-    let back = lists::at(signs, done.outlines as usize, 0) == 1;
+    let back = lists::at(signs, done.outlines as usize, false);
     let m = xy::write_made(s, from, n, back, &mut vertices[at..]);
     lists::put(counts, done.outlines as usize, m);
     Size {
@@ -180,7 +162,7 @@ fn write_outline(
 }
 
 // Writes the set of an accepted stream, so many outlines: no test is made again.
-fn write(s: &[u8], outlines: u32, signs: &[u32], vertices: &mut [f64], counts: &mut [u32])
+fn write(s: &[u8], outlines: u32, signs: &[bool], vertices: &mut [f64], counts: &mut [u32])
     requires { RoomForSet s.now outlines signs.now (set_lent vertices.old counts.old) }
     ensures { Wrote s.now (set_lent vertices.old counts.old) (set_lent vertices.new counts.new) }
 {
@@ -201,45 +183,30 @@ fn write(s: &[u8], outlines: u32, signs: &[u32], vertices: &mut [f64], counts: &
 
 // Reads a stream into two lent lists, with space for the signs of its outlines: nothing is written to the lists
 // unless all of it is accepted.
-fn read_in(s: &[u8], signs: &mut [u32], vertices: &mut [f64], counts: &mut [u32]) -> Judged
+fn read_in(
+    s: &[u8],
+    signs: &mut [bool],
+    vertices: &mut [f64],
+    counts: &mut [u32],
+) -> Result<Size, Refusal>
     requires { length signs.old ≡ 1024 }
     ensures { record { answer = result; lent = set_lent vertices.new counts.new }
         ≡ read_outcome s.now (set_lent vertices.old counts.old) }
 {
-    match measure(s, signs) {
-        Judged::Found(n) => {
-            let short = vertices.len() < 2 * (n.vertices as usize);
-            if short | (counts.len() < (n.outlines as usize)) {
-                return Judged::Refused(Refusal::ShortBuffer);
-            }
-            write(s, n.outlines, signs, vertices, counts);
-            Judged::Found(n)
-        }
-        Judged::Refused(r) => Judged::Refused(r),
+    let size = measure(s, signs)?;
+    let short = vertices.len() < 2 * (size.vertices as usize);
+    if short | (counts.len() < (size.outlines as usize)) {
+        return Err(Refusal::ShortBuffer);
     }
+    write(s, size.outlines, signs, vertices, counts);
+    Ok(size)
 }
 
 // The same, with its own space for the signs.
-pub fn read(s: &[u8], vertices: &mut [f64], counts: &mut [u32]) -> Judged
+pub fn read(s: &[u8], vertices: &mut [f64], counts: &mut [u32]) -> Result<Size, Refusal>
     ensures { record { answer = result; lent = set_lent vertices.new counts.new }
         ≡ read_outcome s.now (set_lent vertices.old counts.old) }
 {
-    let mut signs = [0; 1024];
+    let mut signs = [false; 1024];
     read_in(s, &mut signs, vertices, counts)
-}
-
-// The fields of the answer: a refusal gives its number, and zeros.
-pub fn read_fields(r: Judged) -> ReadFields
-    ensures { result ≡ read_fields r }
-{
-    match r {
-        Judged::Found(n) => ReadFields { number: 0, size: n },
-        Judged::Refused(q) => ReadFields {
-            number: refusals::number_of(q),
-            size: Size {
-                outlines: 0,
-                vertices: 0,
-            },
-        },
-    }
 }

@@ -1,4 +1,5 @@
 -- What a call for many points that passes the tests has, and what it leaves in its lists, one point after the other. Assumes nothing.
+use Rattle.std.proofs.Common.{Ok}
 use Rattle.accept.specs.Refusals.{all_passed}
 use mathlib.Core.Path.{◌≡◌, ap, ◌∙◌}
 use mathlib.Core.Bool.{true, false, not}
@@ -70,11 +71,11 @@ point_fits ps h i l =
 -- ---- the answers, point by point
 module _ (os : List Outline) (ps : List Float) where
   abbrev pub answer_at : ℕ → NearestFields
-  answer_at i = nearest_fields (nearest_in os (vertex_at ps i))
+  answer_at i = nearest_fields (Ok (nearest_in os (vertex_at ps i)))
 
   pub answers_run : answers_of os ps ≡ run answer_at 0 (count ps)
   unfolding answers_of vertices
-  answers_run = map_run (λ p. nearest_fields (nearest_in os p)) (vertex_at ps) 0 (count ps)
+  answers_run = map_run (λ p. nearest_fields (Ok (nearest_in os p))) (vertex_at ps) 0 (count ps)
 
   -- both lists, as they are when the last is written
   pub lists_written : (O : List ℕ) (D : List Float) → count ps ≤ length O → count ps ≤ length D

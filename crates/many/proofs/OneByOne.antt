@@ -1,4 +1,6 @@
 -- WHAT A CALL FOR MANY POINTS ANSWERS: what single calls do, made one by one, in the points' order; and where it is refused. Assumes nothing.
+use Rattle.std.proofs.Common.{Option}
+use Rattle.search.specs.declared.Best.{Best}
 use Rattle.std.proofs.Common.{Err, Ok}
 use mathlib.Core.Path.{◌≡◌, refl, sym, ap, ap₂, ◌∙◌}
 use mathlib.Core.Bool.{false}
@@ -62,7 +64,7 @@ module _ (v : List Float) (cs : List ℕ) (ps : List Float) (L : ManyLent) where
 
   -- REFUSED: the refusal's number, and all that was lent as it was
   pub refused_leaves : {r : Refusal} → many_tested v cs ps L ≡ Err r
-      → many_call v cs ps L ≡ record { answer = record { number = number r; count = 0 }; lent = L }
+      → many_call v cs ps L ≡ record { answer = record { number = number r; value = 0 }; lent = L }
   unfolding many_call many_outcome
   refused_leaves p = ap (in_fields count_fields) (given_failed p (many_worked v cs ps L) (refused_with L))
 
@@ -79,7 +81,7 @@ module _ (v : List Float) (cs : List ℕ) (ps : List Float) (L : ManyLent) where
 
     -- NONE over an empty set: neither list is written
     pub none_over_empty : length cs ≡ 0
-        → many_call v cs ps L ≡ record { answer = record { number = 0; count = 0 }; lent = record { buffer = cleared L.buffer; lists = L.lists } }
+        → many_call v cs ps L ≡ record { answer = record { number = 0; value = 0 }; lent = record { buffer = cleared L.buffer; lists = L.lists } }
     unfolding many_worked written_of with_answers at_front
     none_over_empty e = let n = outlines_length v cs in call_is ∙ rw (eq-eqb (length os) 0 (n ∙ e))
 
@@ -89,7 +91,7 @@ module _ (v : List Float) (cs : List ℕ) (ps : List Float) (L : ManyLent) where
       outlines_some = let n = outlines_length v cs in omega arith
 
       -- FOUND, for no points too
-      pub found_over_some : (many_call v cs ps L).answer ≡ record { number = 0; count = 1 }
+      pub found_over_some : (many_call v cs ps L).answer ≡ record { number = 0; value = 1 }
       unfolding many_worked
       found_over_some = rw (call_is, ne_eqb (length os) 0 (λ z. let n = outlines_some in omega arith))
 
@@ -135,13 +137,13 @@ module _ (v : List Float) (cs : List ℕ) (ps : List Float) (L : ManyLent) where
         abbrev pub point : Point
         point = vertex_at ps i
 
-        outline_is : outline_left i ≡ (nearest_fields (nearest_in os point)).outline
+        outline_is : outline_left i ≡ (nearest_fields (Ok (nearest_in os point))).outline
         outline_is = outlines_are i ∙ field_at (λ a. a.outline) L.lists.outlines 0 i l
 
-        distance_is : distance_left i ≡ (nearest_fields (nearest_in os point)).distance
+        distance_is : distance_left i ≡ (nearest_fields (Ok (nearest_in os point))).distance
         distance_is = distances_are i ∙ field_at (λ a. a.distance) L.lists.distances nan i l
 
-        answer_left : record { number = 0; found = 1; outline = outline_left i; distance = distance_left i } ≡ nearest_fields (nearest_in os point)
+        answer_left : record { number = 0; found = 1; outline = outline_left i; distance = distance_left i } ≡ nearest_fields (Ok (nearest_in os point))
         answer_left =
             let e = answer_best os point outlines_some in
             let o = outline_is ∙ ap (λ (a : NearestFields). a.outline) e in
@@ -155,8 +157,8 @@ module _ (v : List Float) (cs : List ℕ) (ps : List Float) (L : ManyLent) where
         one_by_one B long =
             let h = many_passed v cs ps L passed in
             let q = query_passes v cs point B h.set (point_fits ps h.points i l) long in
-            let w = query_worked v cs point B (nearest_in os point) Err q in
-            answer_left ∙ sym (ap (λ (o : Outcome Nearest IndexBuffer). nearest_fields o.answer) w)
+            let w = query_worked v cs point B (Ok (nearest_in os point)) Err q in
+            answer_left ∙ sym (ap (λ (o : Outcome (Answer (Option Best)) IndexBuffer). nearest_fields o.answer) w)
 
         -- NEAREST: an outline with the least magnitude, and of those the one with the lowest number
         pub place_nearest : Doubles v → DoublePoint point → NearestIs os point (record { outline = outline_left i; distance = distance_left i })

@@ -58,7 +58,7 @@ many_tested v cs ps L =
 -- ---- the answers
 -- the *nearest answer* for each point, in the points' order
 unfoldable pub answers_of : List Outline → List Float → List NearestFields
-answers_of os ps = map (λ p. nearest_fields (nearest_in os p)) (vertices ps)
+answers_of os ps = map (λ p. nearest_fields (Ok (nearest_in os p))) (vertices ps)
 
 -- those that are written: over an empty set none
 unfoldable pub written_of : List Outline → List Float → List NearestFields

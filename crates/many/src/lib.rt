@@ -5,15 +5,18 @@ ghost use Rattle.std.specs.Prelude.{◌≡◌, ◌<◌, length};
 ghost use Rattle.index.specs.Buffer.{buffer};
 ghost use Rattle.set.specs.Set.{outlines_of};
 ghost use Rattle.set.specs.Answers.{SetSpace};
-ghost use Rattle.search.specs.Walk.{Searched, HeapSpace};
+ghost use Rattle.search.specs.Walk.{Searched};
 ghost use Rattle.many.specs.Answers.{answer_lists, lent_as, bad_point_count, any_bad_point, many_tested, answers_of, with_answers, many_worked, many_outcome};
 ghost use Rattle.many.specs.Work.{many_left, ManyReady, RoomFor, AllAsked};
 
-use accept::refusals::{point_in_field, refusing};
-use accept::{Answer, Refusal, Test};
+use accept::Refusal;
+use accept::refusals::{point_in_field, refuse_when};
 use boundary::vertex_at;
 use index::building;
 use index::refusals::short_index;
+use nodes::IndexView;
+use search::heap::Waiting;
+use search::{SetView, search_in};
 use set::frame;
 use set::outlines::put_starts;
 use set::refusals::set_tested;
@@ -31,10 +34,8 @@ fn any_bad_point(ps: &[f64]) -> bool
 {
     let n = ps.len() / 2;
     let mut found = false;
-    let mut i = 0;
-    while i < n {
+    for i in 0..n {
         found = found | !point_in_field(vertex_at(ps, i));
-        i += 1;
     }
     found
 }
@@ -49,82 +50,60 @@ fn tested(
     items: &[u32],
     near: &[u32],
     distances: &[f64],
-) -> Test
+) -> Result<(), Refusal>
     ensures { result ≡ many_tested v.now counts.now ps.now
         (lent_as corners.now links.now items.now near.now distances.now) }
 {
-    let t = refusing(
-        set_tested(v, counts),
-        Refusal::BadPointCount,
-        bad_point_count(ps),
-    );
-    let t = refusing(t, Refusal::BadPoint, any_bad_point(ps));
+    set_tested(v, counts)?;
+    refuse_when(bad_point_count(ps), Refusal::BadPointCount)?;
+    refuse_when(any_bad_point(ps), Refusal::BadPoint)?;
     let short = short_index(corners.len(), links.len(), items.len());
-    let t = refusing(t, Refusal::ShortBuffer, short);
-    refusing(
-        t,
-        Refusal::ShortBuffer,
-        (near.len() < 256) | (distances.len() < 256),
-    )
+    refuse_when(short, Refusal::ShortBuffer)?;
+    let few = (near.len() < 256) | (distances.len() < 256);
+    refuse_when(few, Refusal::ShortBuffer)
 }
 
 // Puts the number and the distance of each point's nearest outline at the point's place of the two lists, by
-// searches of an index of the set. The lists of nodes and gaps are lent for the heap of each search.
+// searches of an index of the set, with a heap that is lent to each.
 fn put_answers_in(
-    v: &[f64],
-    counts: &[u32],
-    starts: &[u32],
-    boxes: &[f64],
+    set: &SetView,
+    index: &IndexView,
     ps: &[f64],
-    corners: &[f64],
-    links: &[u32],
-    items: &[u32],
-    nodes: &mut [u32],
-    gaps: &mut [f64],
+    waiting: &mut Waiting,
     near: &mut [u32],
     distances: &mut [f64],
 )
-    requires { AllAsked v.now counts.now starts.now boxes.now ps.now × Searched (outlines_of v.now counts.now) (buffer corners.now links.now items.now)
-        × HeapSpace nodes.old gaps.old × RoomFor ps.now (answer_lists near.old distances.old) }
+    requires { AllAsked set.now.vertices.now set.now.counts.now set.now.starts.now set.now.boxes.now ps.now
+        × Searched (outlines_of set.now.vertices.now set.now.counts.now) (buffer index.now.corners.now index.now.links.now index.now.items.now)
+        × RoomFor ps.now (answer_lists near.old distances.old) }
     ensures { answer_lists near.new distances.new
-        ≡ with_answers (answers_of (outlines_of v.now counts.now) ps.now) (answer_lists near.old distances.old) }
+        ≡ with_answers (answers_of (outlines_of set.now.vertices.now set.now.counts.now) ps.now) (answer_lists near.old distances.old) }
 {
     let n = ps.len() / 2;
-    let mut i = 0;
-    while i < n {
+    for i in 0..n {
         let p = vertex_at(ps, i);
-        let best = search::search_in(
-            v, counts, starts, boxes, p, corners, links, items, nodes, gaps,
-        );
+        let best = search_in(set, index, p, waiting);
         lists::put(near, i, best.outline);
         lists::put(distances, i, best.distance);
-        i += 1;
     }
 }
 
-// The same, with its own space for the heap.
+// The same, with its own heap.
 fn put_answers(
-    v: &[f64],
-    counts: &[u32],
-    starts: &[u32],
-    boxes: &[f64],
+    set: &SetView,
+    index: &IndexView,
     ps: &[f64],
-    corners: &[f64],
-    links: &[u32],
-    items: &[u32],
     near: &mut [u32],
     distances: &mut [f64],
 )
-    requires { AllAsked v.now counts.now starts.now boxes.now ps.now × Searched (outlines_of v.now counts.now) (buffer corners.now links.now items.now)
+    requires { AllAsked set.now.vertices.now set.now.counts.now set.now.starts.now set.now.boxes.now ps.now
+        × Searched (outlines_of set.now.vertices.now set.now.counts.now) (buffer index.now.corners.now index.now.links.now index.now.items.now)
         × RoomFor ps.now (answer_lists near.old distances.old) }
     ensures { answer_lists near.new distances.new
-        ≡ with_answers (answers_of (outlines_of v.now counts.now) ps.now) (answer_lists near.old distances.old) }
+        ≡ with_answers (answers_of (outlines_of set.now.vertices.now set.now.counts.now) ps.now) (answer_lists near.old distances.old) }
 {
-    let mut nodes = [0; 512];
-    let mut gaps = [0.0; 512];
-    put_answers_in(
-        v, counts, starts, boxes, ps, corners, links, items, &mut nodes, &mut gaps, near, distances,
-    );
+    let mut waiting = Waiting::new();
+    put_answers_in(set, index, ps, &mut waiting, near, distances);
 }
 
 // The answers over a set that has an outline and passed the tests: its index is built in the lent buffers, and
@@ -149,9 +128,18 @@ fn answer_in(
     boundary::all_held(v);
     put_starts(counts, starts);
     frame::index_in(v, counts, boxes, corners, links, items);
-    put_answers(
-        v, counts, starts, boxes, ps, corners, links, items, near, distances,
-    );
+    let set = SetView {
+        vertices: v,
+        counts,
+        starts,
+        boxes,
+    };
+    let index = IndexView {
+        corners,
+        links,
+        items,
+    };
+    put_answers(&set, &index, ps, near, distances);
     building::clear(corners, links, items);
 }
 
@@ -197,18 +185,18 @@ fn answered(
     items: &mut [u32],
     near: &mut [u32],
     distances: &mut [f64],
-) -> Answer
+) -> u32
     requires { ManyReady v.now counts.now ps.now (lent_as corners.old links.old items.old near.old distances.old) }
-    ensures { record { answer = result; lent = lent_as corners.new links.new items.new near.new distances.new }
+    ensures { record { answer = Ok result; lent = lent_as corners.new links.new items.new near.new distances.new }
         ≡ many_worked v.now counts.now ps.now
         (lent_as corners.old links.old items.old near.old distances.old) }
 {
     if counts.len() == 0 {
         building::clear(corners, links, items);
-        return Answer::Count(0);
+        return 0;
     }
     answer(v, counts, ps, corners, links, items, near, distances);
-    Answer::Count(1)
+    1
 }
 
 // For each point the outline of the set with the least magnitude of its distance, the lowest number among
@@ -222,14 +210,11 @@ pub fn nearest_many(
     items: &mut [u32],
     near: &mut [u32],
     distances: &mut [f64],
-) -> Answer
+) -> Result<u32, Refusal>
     ensures { record { answer = result; lent = lent_as corners.new links.new items.new near.new distances.new }
         ≡ many_outcome v.now counts.now ps.now
         (lent_as corners.old links.old items.old near.old distances.old) }
 {
-    let t = tested(v, counts, ps, corners, links, items, near, distances);
-    match t {
-        Test::Passed => answered(v, counts, ps, corners, links, items, near, distances),
-        Test::Failed(r) => Answer::Refused(r),
-    }
+    tested(v, counts, ps, corners, links, items, near, distances)?;
+    Ok(answered(v, counts, ps, corners, links, items, near, distances))
 }

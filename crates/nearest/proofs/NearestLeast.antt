@@ -1,5 +1,5 @@
 -- What the *nearest answer* is, of every set of `f64`s that passes the tests: the least magnitude, with the lowest number among the outlines that have it, and 'none' over an empty set only. Assumes nothing.
-use Rattle.std.proofs.Common.{Ok}
+use Rattle.std.proofs.Common.{Option, None, Some, Ok}
 use mathlib.Core.Path.{◌≡◌, refl}
 use mathlib.Core.Bool.{Bool, true, false, cond}
 use mathlib.Core.List.{List}
@@ -34,7 +34,7 @@ module _ (os : List Outline) (p : Point) where
   }
 
   -- NEAREST: the answer where there is an outline
-  pub nearest_least : Fitting os → DoubleSet os → FieldPoint p → (length os ≡ 0 → ⊥) → (b : Best) × (nearest_in os p ≡ OkSome b) × NearestIs os p b
+  pub nearest_least : Fitting os → DoubleSet os → FieldPoint p → (length os ≡ 0 → ⊥) → (b : Best) × (nearest_in os p ≡ Some b) × NearestIs os p b
   unfolding nearest_in
   nearest_least fit held P some = (
     least_in os p,
@@ -50,12 +50,12 @@ module _ (os : List Outline) (p : Point) where
   unfolding nearest_in
   nearest_none = go (eqb (length os) 0) refl
     where
-      go : (t : Bool) → eqb (length os) 0 ≡ t → cond t None (OkSome (least_in os p)) ≡ None → length os ≡ 0
+      go : (t : Bool) → eqb (length os) 0 ≡ t → ◌≡◌ {A = Option Best} (cond t None (Some (least_in os p))) None → length os ≡ 0
       go true e h = eqb-true (length os) 0 e
       go false e h = let z : ◌≡◌ {A = ℕ} 0 1 = cc in absurd (omega arith)
 
 -- the nearest answer over a set that has an outline is the best of its outlines
 pub answer_best : (os : List Outline) (p : Point) → 0 < length os
-    → nearest_fields (nearest_in os p) ≡ record { number = 0; found = 1; outline = (least_in os p).outline; distance = (least_in os p).distance }
+    → nearest_fields (Ok (nearest_in os p)) ≡ record { number = 0; found = 1; outline = (least_in os p).outline; distance = (least_in os p).distance }
 unfolding nearest_in
 answer_best os p some = rw (ne_eqb (length os) 0 (λ z. omega arith))

@@ -1,6 +1,5 @@
 -- THE RUST'S WALK gives the *nearest answer*. Assumes nothing.
-use Rattle.std.proofs.Common.{Ok, Err}
-use Rattle.accept.specs.Refusals.{Answer}
+use Rattle.std.proofs.Common.{Option, None, Some}
 use mathlib.Core.Path.{◌≡◌, refl, sym, ap, subst}
 use mathlib.Core.Bool.{Bool, true, false, not, cond, ◌&&◌, ◌||◌}
 use mathlib.Core.List.{List, [], ◌∷◌, ◌++◌}
@@ -138,17 +137,15 @@ module _ (D : ℕ → Float) (n : ℕ) (p : Point) where
   good_le x g i h = rw g.gap (good_gap x g i h).gap
 
   -- the best so far is an outline's, and it is at most the i-th
-  abbrev State : Nearest → Type 0
+  abbrev State : Option Best → Type 0
   State None = T true
-  State (OkSome b) = Among D (n - 1) b
-  State (Err r) = ⊥
+  State (Some b) = Among D (n - 1) b
 
-  abbrev Seen : Nearest → ℕ → Type 0
+  abbrev Seen : Option Best → ℕ → Type 0
   Seen None i = ⊥
-  Seen (OkSome b) i = Upto D b i
-  Seen (Err r) i = ⊥
+  Seen (Some b) i = Upto D b i
 
-  record Walking (f : ℕ) (ws : List Waiting) (best : Nearest) : Type 0 where
+  record Walking (f : ℕ) (ws : List Waiting) (best : Option Best) : Type 0 where
     turns : sum size_of ws ≤ f
     good : Every Good ws
     state : State best
@@ -159,25 +156,24 @@ module _ (D : ℕ → Float) (n : ℕ) (p : Point) where
     numbers k l = N k (omega arith)
 
     -- ---- a leaf's items
-    record Looked (best : Nearest) (is : List ℕ) (r : Nearest) : Type 0 where
+    record Looked (best : Option Best) (is : List ℕ) (r : Option Best) : Type 0 where
       state : State r
       new : (i : ℕ) → In i is → Seen r i
       old : (i : ℕ) → Seen best i → Seen r i
 
-    looked_at : (is : List ℕ) (b : Best) → fold (chosen D) (OkSome b) is ≡ OkSome (best_of D b is)
+    looked_at : (is : List ℕ) (b : Best) → fold (chosen D) (Some b) is ≡ Some (best_of D b is)
     unfolding fold best_of
     looked_at [] b = refl
     looked_at (k ∷ ks) b = looked_at ks (improved b k (D k))
 
-    looked_some : (is : List ℕ) (b : Best) → Among D (n - 1) b → ((i : ℕ) → In i is → i < n) → Looked (OkSome b) is (fold (chosen D) (OkSome b) is)
+    looked_some : (is : List ℕ) (b : Best) → Among D (n - 1) b → ((i : ℕ) → In i is → i < n) → Looked (Some b) is (fold (chosen D) (Some b) is)
     looked_some is b B h =
         let r = best_is D (n - 1) numbers is (λ i k. let l = h i k in omega arith) b B in
         rw (looked_at is b) (record { state = r.among; new = r.new; old = r.old })
 
-    looked_is : (is : List ℕ) (best : Nearest) → State best → ((i : ℕ) → In i is → i < n) → Looked best is (fold (chosen D) best is)
+    looked_is : (is : List ℕ) (best : Option Best) → State best → ((i : ℕ) → In i is → i < n) → Looked best is (fold (chosen D) best is)
     unfolding fold times
-    looked_is is (Err r) s h = absurd s
-    looked_is is (OkSome b) s h = looked_some is b s h
+    looked_is is (Some b) s h = looked_some is b s h
     looked_is [] None s h = record { state = s; new = λ i k. absurd (omega arith); old = λ i u. u }
     looked_is (k ∷ ks) None s h =
         let l = h k (in_first k ks) in
@@ -185,12 +181,12 @@ module _ (D : ℕ → Float) (n : ℕ) (p : Point) where
         let r = looked_some ks b (among_this D (n - 1) k (omega arith)) (λ i j. h i (in_rest i k ks j)) in
         record {
           state = r.state;
-          new = in_cons (λ i. Seen (fold (chosen D) (OkSome b) ks) i) k ks (r.old k (upto_this D k (N k l))) r.new;
+          new = in_cons (λ i. Seen (fold (chosen D) (Some b) ks) i) k ks (r.old k (upto_this D k (N k l))) r.new;
           old = λ i u. absurd u;
         }
 
     -- ---- one turn
-    turn : (f : ℕ) (t : Tree) (next : ℕ) (rest : List Waiting) (best : Nearest) → EachNode (Nearby D n p) t → Every Good rest → State best
+    turn : (f : ℕ) (t : Tree) (next : ℕ) (rest : List Waiting) (best : Option Best) → EachNode (Nearby D n p) t → Every Good rest → State best
         → ((i : ℕ) → i < n → times i (items_of t) + sum (has_of i) rest ≡ 0 → Seen best i) → 1 + extra t + sum size_of rest ≤ suc f
         → Walking f (rest ++ opened p next t) (looked D best t)
     unfolding EachNode items_of extra opened looked sum Every
@@ -217,17 +213,15 @@ module _ (D : ℕ → Float) (n : ℕ) (p : Point) where
         }
 
     -- ---- the end
-    all_seen : (best : Nearest) → State best → ((i : ℕ) → i < n → Seen best i) → best ≡ OkSome (least_of D n)
+    all_seen : (best : Option Best) → State best → ((i : ℕ) → i < n → Seen best i) → best ≡ Some (least_of D n)
     all_seen None s u = absurd (u 0 some)
-    all_seen (Err r) s u = absurd s
-    all_seen (OkSome b) s u = let w = s.within in ap OkSome (least_only D n b (least_of D n) (record { within = omega arith; is = s.is; upto = u }) (least_of_lem D n some N))
+    all_seen (Some b) s u = let w = s.within in ap Some (least_only D n b (least_of D n) (record { within = omega arith; is = s.is; upto = u }) (least_of_lem D n some N))
 
     -- the least gap is above the best
-    far_seen : (best : Nearest) (x : Waiting) (xs : List Waiting) (o : Out) → OutIs Good x xs o → ((i : ℕ) → i < n → sum (has_of i) (x ∷ xs) ≡ 0 → Seen best i) → too_far best o.first.gap ≡ true → (i : ℕ) → i < n → Seen best i
+    far_seen : (best : Option Best) (x : Waiting) (xs : List Waiting) (o : Out) → OutIs Good x xs o → ((i : ℕ) → i < n → sum (has_of i) (x ∷ xs) ≡ 0 → Seen best i) → too_far best o.first.gap ≡ true → (i : ℕ) → i < n → Seen best i
     unfolding sum
     far_seen None x xs o O C e i l = absurd (subst T (sym e) tt)
-    far_seen (Err r) x xs o O C e i l = absurd (subst T (sym e) tt)
-    far_seen (OkSome b) x xs o O C e i l = go (ℕ_discrete (has_of i o.first) 0) (ℕ_discrete (sum (has_of i) o.rest) 0)
+    far_seen (Some b) x xs o O C e i l = go (ℕ_discrete (has_of i o.first) 0) (ℕ_discrete (sum (has_of i) o.rest) 0)
       where
         farther : T (le o.first.gap (D i)) → Upto D b i
         farther h =
@@ -239,9 +233,9 @@ module _ (D : ℕ → Float) (n : ℕ) (p : Point) where
         go (yes z) (yes y) = C i l (let s = O.sums (has_of i) in omega arith)
         go (yes z) (no a) = sum_some (has_of i) o.rest (Upto D b i) (λ y h k. farther (le_through o.first.gap y.gap (D i) h.1 (good_le y h.0 i k))) (every_both Good (λ y. T (le o.first.gap y.gap)) o.rest O.rest O.least) (omega arith)
 
-    walk_turn : (f : ℕ) (x : Waiting) (xs : List Waiting) (best : Nearest) (o : Out) → OutIs Good x xs o → Walking (suc f) (x ∷ xs) best
-        → ((ws : List Waiting) (b : Nearest) → Walking f ws b → walk_on f D p ws b ≡ OkSome (least_of D n))
-        → (t : Bool) → too_far best o.first.gap ≡ t → cond t best (walk_on f D p (o.rest ++ opened p o.first.next o.first.tree) (looked D best o.first.tree)) ≡ OkSome (least_of D n)
+    walk_turn : (f : ℕ) (x : Waiting) (xs : List Waiting) (best : Option Best) (o : Out) → OutIs Good x xs o → Walking (suc f) (x ∷ xs) best
+        → ((ws : List Waiting) (b : Option Best) → Walking f ws b → walk_on f D p ws b ≡ Some (least_of D n))
+        → (t : Bool) → too_far best o.first.gap ≡ t → cond t best (walk_on f D p (o.rest ++ opened p o.first.next o.first.tree) (looked D best o.first.tree)) ≡ Some (least_of D n)
     unfolding sum
     walk_turn f x xs best o O W ih true e = all_seen best W.state (far_seen best x xs o O W.cover e)
     walk_turn f x xs best o O W ih false e =
@@ -249,7 +243,7 @@ module _ (D : ℕ → Float) (n : ℕ) (p : Point) where
         (turn f o.first.tree o.first.next o.rest best O.first.near O.rest W.state
         (λ i l z. W.cover i l (let s = O.sums (has_of i) in omega arith)) (let s = O.sums size_of in let u = W.turns in omega arith))
 
-    walk_on_lem : (f : ℕ) (ws : List Waiting) (best : Nearest) → Walking f ws best → walk_on f D p ws best ≡ OkSome (least_of D n)
+    walk_on_lem : (f : ℕ) (ws : List Waiting) (best : Option Best) → Walking f ws best → walk_on f D p ws best ≡ Some (least_of D n)
     unfolding walk_on sum Every
     walk_on_lem zero [] best W = all_seen best W.state (λ i l. W.cover i l refl)
     walk_on_lem zero (x ∷ xs) best W = let u = W.turns in absurd (omega arith)
@@ -278,7 +272,7 @@ module _ (os : List Outline) (p : Point) (fit : Fitting os) (held : DoubleSet os
       above : (n : ℕ) → (n ≡ 0 → ⊥) → 0 < n
       above n h = omega arith
 
-      go : (b : Bool) → eqb (length os) 0 ≡ b → cond b None (walk_on (1 + extra t) (magnitude_at os p) p (waiting_for p 0 1 t ∷ []) None) ≡ cond b None (OkSome (least_in os p))
+      go : (b : Bool) → eqb (length os) 0 ≡ b → cond b None (walk_on (1 + extra t) (magnitude_at os p) p (waiting_for p 0 1 t ∷ []) None) ≡ cond b None (Some (least_in os p))
       go true e = refl
       go false e =
           let s = above (length os) (eqb-false (length os) 0 e) in

@@ -1,7 +1,6 @@
 -- `nearest` in the Rust's own names and order (document 01, index.rs): nodes wait, the least by gap, then by number, is taken out, and the walk ends where its gap is above the best. Definitions only.
-use Rattle.std.specs.Prelude.{Ok, Err}
-use Rattle.accept.specs.Refusals.{Answer}
-use Rattle.std.specs.Prelude.{Bool, false, not, cond, ◌&&◌, ◌||◌, List, [], ◌∷◌, ◌++◌, ℕ, zero, suc, ◌+◌, eqb, ltb, length, Float}
+use Rattle.search.specs.declared.Best.{Best}
+use Rattle.std.specs.Prelude.{Bool, false, not, cond, ◌&&◌, ◌||◌, List, [], ◌∷◌, ◌++◌, ℕ, zero, suc, ◌+◌, eqb, ltb, length, Float, Option, None, Some}
 use Rattle.std.specs.Float.Ieee.{lt}
 use Rattle.boundary.specs.declared.Point.{Point}
 use Rattle.boundary.specs.Boxes.{gap_of}
@@ -40,13 +39,12 @@ least_out x (y ∷ ys) =
     cond (sooner o.first x) (record { first = o.first; rest = x ∷ o.rest }) (record { first = x; rest = o.first ∷ o.rest })
 
 -- outline k is looked at
-abbrev pub chosen : (ℕ → Float) → Nearest → ℕ → Nearest
-chosen D None k = OkSome (record { outline = k; distance = D k })
-chosen D (OkSome b) k = OkSome (improved b k (D k))
-chosen D (Err r) k = Err r
+abbrev pub chosen : (ℕ → Float) → Option Best → ℕ → Option Best
+chosen D None k = Some (record { outline = k; distance = D k })
+chosen D (Some b) k = Some (improved b k (D k))
 
 -- a leaf's items in order; an inner node has none of its own
-unfoldable pub looked : (ℕ → Float) → Nearest → Tree → Nearest
+unfoldable pub looked : (ℕ → Float) → Option Best → Tree → Option Best
 unfolding fold improved
 looked D best (leaf b is) = fold (chosen D) best is
 looked D best (inner b l r) = best
@@ -62,13 +60,12 @@ abbrev pub waiting_after : Point → Out → List Waiting
 waiting_after p o = o.rest ++ opened p o.first.next o.first.tree
 
 -- the gap is above the best
-abbrev pub too_far : Nearest → Float → Bool
+abbrev pub too_far : Option Best → Float → Bool
 too_far None g = false
-too_far (OkSome b) g = lt b.distance g
-too_far (Err r) g = false
+too_far (Some b) g = lt b.distance g
 
 -- as many turns as f at most
-unfoldable pub walk_on : ℕ → (ℕ → Float) → Point → List Waiting → Nearest → Nearest
+unfoldable pub walk_on : ℕ → (ℕ → Float) → Point → List Waiting → Option Best → Option Best
 unfolding lt least_out looked opened
 walk_on zero D p ws best = best
 walk_on (suc f) D p [] best = best
@@ -78,7 +75,7 @@ walk_on (suc f) D p (x ∷ xs) best =
     cond (too_far best o.first.gap) best later
 
 -- from the root on: each node is taken out once at most
-unfoldable pub walk_of : List Outline → Point → Nearest
+unfoldable pub walk_of : List Outline → Point → Option Best
 unfolding walk_on extra index_of set_boxes magnitude_of gap_of
 walk_of os p =
     let t = index_of (set_boxes os) in

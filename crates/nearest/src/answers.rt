@@ -2,8 +2,9 @@
 ghost use Rattle.std.specs.Prelude.{◌≡◌};
 ghost use Rattle.nearest.specs.Nearest.{none_found, nearest_fields};
 
-use crate::{Nearest, NearestFields};
-use accept::refusals::number_of;
+use crate::NearestFields;
+use accept::Refusal;
+use search::Best;
 
 // Where there is none: zeros, and the number of a refusal, or 0.
 fn none_found(number: u32) -> NearestFields
@@ -17,17 +18,17 @@ fn none_found(number: u32) -> NearestFields
     }
 }
 
-pub fn nearest_fields(a: Nearest) -> NearestFields
-    ensures { result ≡ nearest_fields a }
+pub fn nearest_fields(answer: Result<Option<Best>, Refusal>) -> NearestFields
+    ensures { result ≡ nearest_fields answer }
 {
-    match a {
-        Nearest::Refused(r) => none_found(number_of(r)),
-        Nearest::None => none_found(0),
-        Nearest::At(b) => NearestFields {
+    match answer {
+        Ok(Some(best)) => NearestFields {
             number: 0,
             found: 1,
-            outline: b.outline,
-            distance: b.distance,
+            outline: best.outline,
+            distance: best.distance,
         },
+        Ok(None) => none_found(0),
+        Err(r) => none_found(u32::from(r)),
     }
 }

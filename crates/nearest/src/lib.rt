@@ -3,7 +3,7 @@
 
 pub mod answers;
 
-ghost use Rattle.std.specs.Prelude.{◌≡◌, true, ◌<◌, length};
+ghost use Rattle.std.specs.Prelude.{◌≡◌, true, ◌*◌, ◌<◌, ◌≤◌, length};
 ghost use Rattle.boundary.specs.Boxes.{point_in_field};
 ghost use Rattle.index.specs.Buffer.{buffer};
 ghost use Rattle.set.specs.Set.{outlines_of};
@@ -12,10 +12,11 @@ ghost use Rattle.search.specs.Least.{least_in};
 ghost use Rattle.nearest.specs.Nearest.{nearest_in};
 ghost use Rattle.nearest.specs.Answers.{nearest_outcome};
 
-use accept::{Refusal, Test};
+use accept::Refusal;
 use boundary::Point;
 use index::building;
-use search::Best;
+use nodes::IndexView;
+use search::{Best, SetView};
 use set::refusals::query_tested;
 use set::{frame, outlines};
 
@@ -26,14 +27,6 @@ pub struct NearestFields {
     pub found: u32,
     pub outline: u32,
     pub distance: f64,
-}
-
-// What the query answers.
-#[derive(Clone, Copy)]
-pub enum Nearest {
-    Refused(Refusal),
-    None,
-    At(Best),
 }
 
 // The nearest of the outlines of a set that passed the tests: its index is built in the lent buffers, and
@@ -56,13 +49,42 @@ fn found_in(
     boundary::all_held(v);
     outlines::put_starts(counts, starts);
     frame::index_in(v, counts, boxes, corners, links, items);
-    let best = search::search(v, counts, starts, boxes, p, corners, links, items);
+    let set = SetView {
+        vertices: v,
+        counts,
+        starts,
+        boxes,
+    };
+    let index = IndexView {
+        corners,
+        links,
+        items,
+    };
+    let best = search::search(&set, &index, p);
     building::clear(corners, links, items);
     best
 }
 
-// The same, with its own space for the starts and the boxes: that of 32 outlines, where it is enough, since it
-// is filled with zeros first.
+// The same, with its own space for S starts and B numbers of the boxes.
+fn found_within<const S: usize, const B: usize>(
+    v: &[f64],
+    counts: &[u32],
+    p: Point,
+    corners: &mut [f64],
+    links: &mut [u32],
+    items: &mut [u32],
+) -> Best
+    requires { Ready v.now counts.now (buffer corners.old links.old items.old) × (point_in_field p ≡ true)
+        × (0 < length counts.now) × (length counts.now ≤ S) × (4 * S ≡ B) × (B ≤ 4096) }
+    ensures { record { answer = result; lent = buffer corners.new links.new items.new }
+        ≡ worked (least_in (outlines_of v.now counts.now) p) (buffer corners.old links.old items.old) }
+{
+    let mut starts = [0; S];
+    let mut boxes = [0.0; B];
+    found_in(v, counts, p, &mut starts, &mut boxes, corners, links, items)
+}
+
+// The same. The space is that of 32 outlines, where it is enough, since it is filled with zeros first.
 fn found(
     v: &[f64],
     counts: &[u32],
@@ -77,16 +99,12 @@ fn found(
         ≡ worked (least_in (outlines_of v.now counts.now) p) (buffer corners.old links.old items.old) }
 {
     if counts.len() <= 32 {
-        let mut starts = [0; 32];
-        let mut boxes = [0.0; 128];
-        return found_in(v, counts, p, &mut starts, &mut boxes, corners, links, items);
+        return found_within::<32, 128>(v, counts, p, corners, links, items);
     }
-    let mut starts = [0; 1024];
-    let mut boxes = [0.0; 4096];
-    found_in(v, counts, p, &mut starts, &mut boxes, corners, links, items)
+    found_within::<1024, 4096>(v, counts, p, corners, links, items)
 }
 
-// The answer over a set that passed the tests.
+// The answer over a set that passed the tests: none where it is empty.
 fn answered(
     v: &[f64],
     counts: &[u32],
@@ -94,16 +112,16 @@ fn answered(
     corners: &mut [f64],
     links: &mut [u32],
     items: &mut [u32],
-) -> Nearest
+) -> Option<Best>
     requires { Ready v.now counts.now (buffer corners.old links.old items.old) × (point_in_field p ≡ true) }
     ensures { record { answer = result; lent = buffer corners.new links.new items.new }
         ≡ worked (nearest_in (outlines_of v.now counts.now) p) (buffer corners.old links.old items.old) }
 {
     if counts.len() == 0 {
         building::clear(corners, links, items);
-        return Nearest::None;
+        return None;
     }
-    Nearest::At(found(v, counts, p, corners, links, items))
+    Some(found(v, counts, p, corners, links, items))
 }
 
 // The outline of the set with the least magnitude of its distance from p, the lowest number among equals.
@@ -114,13 +132,10 @@ pub fn nearest_to(
     corners: &mut [f64],
     links: &mut [u32],
     items: &mut [u32],
-) -> Nearest
+) -> Result<Option<Best>, Refusal>
     ensures { record { answer = result; lent = buffer corners.new links.new items.new }
         ≡ nearest_outcome v.now counts.now p (buffer corners.old links.old items.old) }
 {
-    let t = query_tested(v, counts, p, corners, links, items);
-    match t {
-        Test::Passed => answered(v, counts, p, corners, links, items),
-        Test::Failed(r) => Nearest::Refused(r),
-    }
+    query_tested(v, counts, p, corners, links, items)?;
+    Ok(answered(v, counts, p, corners, links, items))
 }

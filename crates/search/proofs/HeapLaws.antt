@@ -8,7 +8,7 @@ use native.Mathlib.Omega.{arith}
 use lib.Dec.{T}
 use lib.ListN.{length, set}
 use lib.Seq.{get_or-set_same, get_or-set_other}
-use lib.Ieee.{Float, nan, le}
+use lib.Ieee.{le}
 use Rattle.search.specs.declared.Entry.{Entry}
 use Rattle.search.specs.Order.{NumberGap, ◌≼◌}
 use Rattle.search.specs.Heap.{no_entry, entry_at, parent, Heaped, total_weight, Pushed, Popped}

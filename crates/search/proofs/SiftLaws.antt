@@ -1,5 +1,5 @@
 -- An entry that moves up or down by exchanges ends in a heap. Assumes nothing.
-use mathlib.Core.Path.{◌≡◌, refl, sym, ap, ◌∙◌, subst}
+use mathlib.Core.Path.{◌≡◌, refl, sym, ◌∙◌, subst}
 use mathlib.Core.Logic.{◌⊎◌, inl, inr, ⊎_elim}
 use mathlib.Core.Bool.{Bool, true, false, cond, ◌&&◌}
 use mathlib.Core.List.{List}
@@ -8,12 +8,12 @@ use native.Mathlib.Decide.{ℕ_discrete}
 use native.Mathlib.Omega.{arith}
 use borrow.Author.Tests.{ltb-true, ltb-false, le-ltb}
 use lib.Dec.{T, ltb}
-use lib.ListN.{length, length-set}
-use lib.Ieee.{Float, nan}
+use lib.ListN.{length}
 use Rattle.search.specs.declared.Entry.{Entry}
 use Rattle.search.specs.Order.{entry_before, NumberGap, ◌≼◌}
-use Rattle.search.specs.Heap.{no_entry, entry_at, parent, Heaped, total_weight}
-use Rattle.search.specs.Sifts.{exchanged, rises, earlier_of, least_child, Rising, Sinking}
+use Rattle.search.specs.Heap.{entry_at, parent, Heaped, total_weight}
+use Rattle.std.specs.Prelude.{swap}
+use Rattle.search.specs.Sifts.{rises, earlier_of, least_child, Rising, Sinking}
 use Rattle.search.proofs.EntryOrder.{upto_of_before, upto_of_not, upto_self, upto_through}
 use Rattle.search.proofs.Contents.{Swap, exchanged_swap, swap_all, total_swap}
 
@@ -29,9 +29,9 @@ pub record Moving (M : List Entry) (n : ℕ) (E : List Entry) : Type 0 where
 pub moving : (M : List Entry) (n : ℕ) → Moving M n M
 moving M n = record { long = refl; contents = λ w. refl }
 
-pub move_on : {M E E' : List Entry} {n i j : ℕ} → Moving M n E → i < n → j < n → E' ≡ exchanged no_entry E i j → Swap (entry_at E) (entry_at E') i j → Moving M n E'
-move_on {n = n} H I J e S = record {
-  long = ap length e ∙ (simp length-set) ∙ H.long;
+pub move_on : {M E E' : List Entry} {n i j : ℕ} → Moving M n E → i < n → j < n → length E' ≡ length E → Swap (entry_at E) (entry_at E') i j → Moving M n E'
+move_on {n = n} H I J l S = record {
+  long = l ∙ H.long;
   contents = λ w. total_swap w n S I J ∙ H.contents w;
 }
 
@@ -182,14 +182,14 @@ module _ {f : ℕ → Entry} {n i : ℕ} (R : Sinking f n i) where
 
 -- ---- one turn of each loop
 module _ {M E E' : List Entry} {n i : ℕ} (H : Moving M n E) (long : n ≤ length M) where
-  pub rise_turn : Rising (entry_at E) n i → i < n → rises (entry_at E) i ≡ true → E' ≡ exchanged no_entry E i (parent i) → Moving M n E' × Rising (entry_at E') n (parent i)
-  rise_turn R I t e =
+  pub rise_turn : Rising (entry_at E) n i → i < n → rises (entry_at E) i ≡ true → E' ≡ swap E i (parent i) → length E' ≡ length E → Moving M n E' × Rising (entry_at E') n (parent i)
+  rise_turn R I t e l =
       let up = rises_says (entry_at E) i t in
       let S = exchanged_swap E i (parent i) e (omega (arith, H.long)) (omega (arith, H.long)) in
-      (move_on H I (omega arith) e S, rise_on R I up.0 up.1 S)
+      (move_on H I (omega arith) l S, rise_on R I up.0 up.1 S)
 
-  pub sink_turn : (c : ℕ) → c ≡ least_child (entry_at E) n i → (c ≡ i → ⊥) → Sinking (entry_at E) n i → E' ≡ exchanged no_entry E i c → Moving M n E' × Sinking (entry_at E') n c
-  sink_turn c z a R e =
+  pub sink_turn : (c : ℕ) → c ≡ least_child (entry_at E) n i → (c ≡ i → ⊥) → Sinking (entry_at E) n i → E' ≡ swap E i c → length E' ≡ length E → Moving M n E' × Sinking (entry_at E') n c
+  sink_turn c z a R e l =
       let at = least_place R (rw z at a) in
       let S = exchanged_swap E i c e (omega (arith, H.long)) (omega (arith, H.long)) in
-      (move_on H (omega arith) (omega arith) e S, rw z (sink_on R (rw z at a) (rw z at S)))
+      (move_on H (omega arith) (omega arith) l S, rw z (sink_on R (rw z at a) (rw z at S)))

@@ -1,12 +1,8 @@
 -- How an entry moves to its place in a heap: up from the end, or down from the root. Definitions only.
-use Rattle.std.specs.Prelude.{◌≡◌, Bool, cond, ◌&&◌, List, ℕ, ◌+◌, ◌*◌, ◌<◌, ltb, get_or, set}
+use Rattle.std.specs.Prelude.{◌≡◌, Bool, cond, ◌&&◌, ℕ, ◌+◌, ◌*◌, ◌<◌, ltb}
 use Rattle.search.specs.declared.Entry.{Entry}
 use Rattle.search.specs.Order.{entry_before, NumberGap, ◌≼◌}
 use Rattle.search.specs.Heap.{parent, Heaped, total_weight}
-
--- the list with what stands at i and j exchanged
-abbrev pub exchanged : {A : Type 0} → A → List A → ℕ → ℕ → List A
-exchanged d l i j = set (set l i (get_or l j d)) j (get_or l i d)
 
 -- the entry at i is before its parent
 unfoldable pub rises : (ℕ → Entry) → ℕ → Bool

@@ -1,8 +1,8 @@
 // The waiting heap of `nearest`: the least entry is first.
 ghost use Rattle.std.specs.Prelude.{◌≡◌, ◌+◌, ◌-◌, ◌<◌, ◌≤◌, length, IsNone, IfSome, ◌↔◌};
 ghost use Rattle.search.specs.Order.{NumberGap, entry_before};
-ghost use Rattle.search.specs.Heap.{no_entry, entry_at, Heaped, Pushed, Popped};
-ghost use Rattle.search.specs.Sifts.{exchanged, rises, earlier_of, least_child, Rising, Sinking, Sifted};
+ghost use Rattle.search.specs.Heap.{entry_at, Heaped, Pushed, Popped};
+ghost use Rattle.search.specs.Sifts.{rises, earlier_of, least_child, Rising, Sinking, Sifted};
 
 use crate::Entry;
 
@@ -11,20 +11,14 @@ use crate::Entry;
 pub struct Waiting {
     entries: [Entry; 512],
     len: usize,
+    ghost within: { len ≤ 512 },
+    ghost heaped: { Heaped (entry_at entries) len },
 }
 
 fn is_before(a: Entry, b: Entry) -> bool
     ensures { result ≡ entry_before a b }
 {
     (a.gap < b.gap) | ((a.gap == b.gap) & (a.node < b.node))
-}
-
-// Exchanges the entries at i and j.
-fn exchange(entries: &mut [Entry], i: usize, j: usize)
-    requires { (i < length entries.old) × (j < length entries.old) }
-    ensures { entries.new ≡ exchanged no_entry entries.old i j }
-{
-    entries.swap(i, j);
 }
 
 // Whether the entry at i is before its parent.
@@ -46,7 +40,7 @@ fn rise(entries: &mut [Entry], last: usize)
     let mut i = last;
     while is_rising(entries, i) {
         let p = (i - 1) / 2;
-        exchange(entries, i, p);
+        entries.swap(i, p);
         i = p;
     }
 }
@@ -84,7 +78,7 @@ fn sink(entries: &mut [Entry], n: usize)
     let mut i = 0;
     let mut c = least_of(entries, n, i);
     while c != i {
-        exchange(entries, i, c);
+        entries.swap(i, c);
         i = c;
         c = least_of(entries, n, i);
     }
@@ -111,7 +105,7 @@ impl Waiting {
 
     // One node more.
     pub fn push(&mut self, entry: Entry)
-        requires { (self.old.len < 512) × Heaped (entry_at self.old.entries) self.old.len × NumberGap entry }
+        requires { (self.old.len < 512) × NumberGap entry }
         ensures len { self.new.len ≡ self.old.len + 1 }
         ensures pushed { Pushed (entry_at self.old.entries) self.old.len entry (entry_at self.new.entries) }
     {
@@ -123,7 +117,6 @@ impl Waiting {
 
     // Takes the least entry, where there is one.
     pub fn pop(&mut self) -> Option<Entry>
-        requires { (self.old.len ≤ 512) × Heaped (entry_at self.old.entries) self.old.len }
         ensures none { IsNone result ↔ (self.old.len ≡ 0) }
         ensures len { self.new.len ≡ self.old.len - 1 }
         ensures popped { IfSome result (λ top. Popped (entry_at self.old.entries) self.old.len top (entry_at self.new.entries)) }
@@ -133,7 +126,7 @@ impl Waiting {
         }
         let last = self.len - 1;
         let top = self.entries[0];
-        exchange(&mut self.entries, 0, last);
+        self.entries.swap(0, last);
         sink(&mut self.entries, last);
         self.len = last;
         Some(top)

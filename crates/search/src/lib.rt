@@ -19,6 +19,7 @@ ghost use Rattle.search.specs.Walk.{improved, kept_with, none_kept, Clear, best_
 use crate::heap::Waiting;
 use boundary::{Edge, Point, out_along};
 use distance::nearest::{gap_squares, nearest_edge, squares_to};
+use nodes::IndexView;
 use number::root::hypot;
 use set::outlines::outline_at;
 
@@ -27,6 +28,15 @@ use set::outlines::outline_at;
 pub struct Entry {
     pub gap: f64,
     pub node: u32,
+}
+
+// A set that passed the tests, how many vertices stand before each outline, and the outlines' boxes.
+#[derive(Clone, Copy)]
+pub struct SetView<'a> {
+    pub vertices: &'a [f64],
+    pub counts: &'a [u32],
+    pub starts: &'a [u32],
+    pub boxes: &'a [f64],
 }
 
 // An outline's number, and the magnitude of its distance.
@@ -44,10 +54,10 @@ pub struct Kept {
 }
 
 // The entry of a node: its gap is how far p is outside its box, squared.
-fn entry_for(corners: &[f64], node: u32, p: Point) -> Entry
-    ensures { result ≡ entry_for corners.now p node }
+fn entry_for(index: &IndexView, node: u32, p: Point) -> Entry
+    ensures { result ≡ entry_for index.now.corners.now p node }
 {
-    let b = boxes::box_at(corners, node as usize);
+    let b = index.box_at(node as usize);
     let x = out_along(b.min.x, b.max.x, p.x);
     let y = out_along(b.min.y, b.max.y, p.y);
     let gap = x * x + y * y;
@@ -98,23 +108,16 @@ fn box_squares(boxes: &[f64], k: u32, p: Point) -> f64
 
 // The better of what is kept and outline k: its edges are looked at where its box is not clearly farther, and
 // its distance is worked out where its nearest point is not.
-fn look_at(
-    v: &[f64],
-    counts: &[u32],
-    starts: &[u32],
-    boxes: &[f64],
-    k: u32,
-    p: Point,
-    kept: Kept,
-) -> Kept
-    requires { Asked v.now counts.now starts.now p × Boxed (outlines_of v.now counts.now) boxes.now
-        × (k < length (outlines_of v.now counts.now)) × Clear p kept }
-    ensures { (result.best ≡ improved kept.best k (magnitude_at (outlines_of v.now counts.now) p k)) × Clear p result }
+fn look_at(set: &SetView, k: u32, p: Point, kept: Kept) -> Kept
+    requires { Asked set.now.vertices.now set.now.counts.now set.now.starts.now p × Boxed (outlines_of set.now.vertices.now set.now.counts.now) set.now.boxes.now
+        × (k < length (outlines_of set.now.vertices.now set.now.counts.now)) × Clear p kept }
+    ensures { (result.best ≡ improved kept.best k (magnitude_at (outlines_of set.now.vertices.now set.now.counts.now) p k)) × Clear p result }
 {
-    if kept.far < box_squares(boxes, k, p) {
+    if kept.far < box_squares(set.boxes, k, p) {
         return kept;
     }
-    let f = nearest_edge(outline_at(v, counts, starts, k as usize), p);
+    let outline = outline_at(set.vertices, set.counts, set.starts, k as usize);
+    let f = nearest_edge(outline, p);
     let q = f.q;
     if kept.far < squares_to(q, p) {
         return kept;
@@ -123,101 +126,59 @@ fn look_at(
 }
 
 // The best of what is kept and a leaf's outlines.
-fn look(
-    v: &[f64],
-    counts: &[u32],
-    starts: &[u32],
-    boxes: &[f64],
-    items: &[u32],
-    first: u32,
-    count: u32,
-    p: Point,
-    start: Kept,
-) -> Kept
-    requires { Asked v.now counts.now starts.now p × Boxed (outlines_of v.now counts.now) boxes.now
-        × ((i : ℕ) → In i (run (item_at items.now) first count) → i < length (outlines_of v.now counts.now)) × Clear p start }
-    ensures { (result.best ≡ best_of (magnitude_at (outlines_of v.now counts.now) p) start.best (run (item_at items.now) first count)) × Clear p result }
+fn look(set: &SetView, index: &IndexView, first: u32, count: u32, p: Point, start: Kept) -> Kept
+    requires { Asked set.now.vertices.now set.now.counts.now set.now.starts.now p × Boxed (outlines_of set.now.vertices.now set.now.counts.now) set.now.boxes.now
+        × ((i : ℕ) → In i (run (item_at index.now.items.now) first count) → i < length (outlines_of set.now.vertices.now set.now.counts.now)) × Clear p start }
+    ensures { (result.best ≡ best_of (magnitude_at (outlines_of set.now.vertices.now set.now.counts.now) p) start.best (run (item_at index.now.items.now) first count)) × Clear p result }
 {
     let mut kept = start;
     for i in 0..count {
-        let k = lists::at(items, (first as usize) + (i as usize), 0);
-        kept = look_at(v, counts, starts, boxes, k, p, kept);
+        let k = index.item_at(first as usize + i as usize);
+        kept = look_at(set, k, p, kept);
     }
     kept
 }
 
 // The nodes first and first + 1 wait.
-fn wait_both(corners: &[f64], p: Point, first: u32, waiting: &mut Waiting)
-    requires { (waiting.old.len + 1 < 512) × (first + 1 < 2 ^ 32) × (Heaped (entry_at waiting.old.entries) waiting.old.len
-        × (NumberGap (entry_for corners.now p first) × NumberGap (entry_for corners.now p (first + 1)))) }
+fn wait_both(index: &IndexView, p: Point, first: u32, waiting: &mut Waiting)
+    requires { (waiting.old.len + 1 < 512) × (first + 1 < 2 ^ 32) × (NumberGap (entry_for index.now.corners.now p first) × NumberGap (entry_for index.now.corners.now p (first + 1))) }
     ensures len { waiting.new.len ≡ waiting.old.len + 2 }
-    ensures opened { Opened (entry_at waiting.old.entries) waiting.old.len (entry_for corners.now p first) (entry_for corners.now p (first + 1)) (entry_at waiting.new.entries) }
+    ensures opened { Opened (entry_at waiting.old.entries) waiting.old.len (entry_for index.now.corners.now p first) (entry_for index.now.corners.now p (first + 1)) (entry_at waiting.new.entries) }
 {
-    waiting.push(entry_for(corners, first, p));
-    waiting.push(entry_for(corners, first + 1, p));
+    waiting.push(entry_for(index, first, p));
+    waiting.push(entry_for(index, first + 1, p));
 }
 
 // The nearest of the set's outlines, by a search of an index of it: the nodes that wait are in a heap, lent for
 // the search, and the search ends where the least gap is clearly above the best distance.
-pub fn search_in(
-    v: &[f64],
-    counts: &[u32],
-    starts: &[u32],
-    boxes: &[f64],
-    p: Point,
-    corners: &[f64],
-    links: &[u32],
-    items: &[u32],
-    waiting: &mut Waiting,
-) -> Best
-    requires { Asked v.now counts.now starts.now p × Boxed (outlines_of v.now counts.now) boxes.now
-        × Searched (outlines_of v.now counts.now) (buffer corners.now links.now items.now) × (0 < length counts.now) }
-    ensures { result ≡ least_in (outlines_of v.now counts.now) p }
+pub fn search_in(set: &SetView, index: &IndexView, p: Point, waiting: &mut Waiting) -> Best
+    requires { Asked set.now.vertices.now set.now.counts.now set.now.starts.now p × Boxed (outlines_of set.now.vertices.now set.now.counts.now) set.now.boxes.now
+        × Searched (outlines_of set.now.vertices.now set.now.counts.now) (buffer index.now.corners.now index.now.links.now index.now.items.now) × (0 < length set.now.counts.now) }
+    ensures { result ≡ least_in (outlines_of set.now.vertices.now set.now.counts.now) p }
 {
     waiting.clear();
-    waiting.push(entry_for(corners, 0, p));
-    let mut kept = none_kept(counts.len() as u32);
+    waiting.push(entry_for(index, 0, p));
+    let mut kept = none_kept(set.counts.len() as u32);
     while let Some(e) = waiting.pop() {
         if kept.far < e.gap {
             return kept.best;
         }
-        let k = 2 * (e.node as usize);
-        let first = lists::at(links, k, 0);
-        let count = lists::at(links, k + 1, 0);
+        let first = index.first_at(e.node as usize);
+        let count = index.count_at(e.node as usize);
         if count > 0 {
-            kept = look(v, counts, starts, boxes, items, first, count, p, kept);
+            kept = look(set, index, first, count, p, kept);
         } else {
-            wait_both(corners, p, first, waiting);
+            wait_both(index, p, first, waiting);
         }
     }
     kept.best
 }
 
 // The same, with its own space for the heap.
-pub fn search(
-    v: &[f64],
-    counts: &[u32],
-    starts: &[u32],
-    boxes: &[f64],
-    p: Point,
-    corners: &[f64],
-    links: &[u32],
-    items: &[u32],
-) -> Best
-    requires { Asked v.now counts.now starts.now p × Boxed (outlines_of v.now counts.now) boxes.now
-        × Searched (outlines_of v.now counts.now) (buffer corners.now links.now items.now) × (0 < length counts.now) }
-    ensures { result ≡ least_in (outlines_of v.now counts.now) p }
+pub fn search(set: &SetView, index: &IndexView, p: Point) -> Best
+    requires { Asked set.now.vertices.now set.now.counts.now set.now.starts.now p × Boxed (outlines_of set.now.vertices.now set.now.counts.now) set.now.boxes.now
+        × Searched (outlines_of set.now.vertices.now set.now.counts.now) (buffer index.now.corners.now index.now.links.now index.now.items.now) × (0 < length set.now.counts.now) }
+    ensures { result ≡ least_in (outlines_of set.now.vertices.now set.now.counts.now) p }
 {
-    let mut waiting = Waiting::new();
-    search_in(
-        v,
-        counts,
-        starts,
-        boxes,
-        p,
-        corners,
-        links,
-        items,
-        &mut waiting,
-    )
+    search_in(set, index, p, &mut Waiting::new())
 }

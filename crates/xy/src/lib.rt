@@ -4,16 +4,13 @@
 ghost use Rattle.std.specs.Prelude.{◌≡◌, ◌+◌, ◌*◌, ◌≤◌, ◌<◌, length, nat_abs};
 ghost use Rattle.lists.specs.Lists.{at_front};
 ghost use Rattle.boundary.specs.Outline.{count, vertices, edges};
-ghost use Rattle.accept.specs.declared.Verdict.TheVariants.{Area, TurnedAway};
 ghost use Rattle.accept.specs.Area.{area_of};
-ghost use Rattle.accept.specs.declared.Test.TheVariants.{Passed};
-ghost use Rattle.accept.specs.Refusals.{given, equal_neighbours, negative_area, shape_tested};
+ghost use Rattle.accept.specs.Refusals.{all_passed, given, equal_neighbours, negative_area, shape_tested};
 ghost use Rattle.accept.specs.Verdicts.{edges_verdict};
 ghost use Rattle.geometry.specs.Making.{kept, turned, coordinates_of, made_of};
-ghost use Rattle.xy.specs.declared.Made.TheVariants.{Whole, Unmade};
 ghost use Rattle.xy.specs.Outlines.{microns_of, makings_of, xy_tested, steps_from, numbers_from, vertex_from, InReach};
 
-use accept::{Refusal, Verdict, refusals};
+use accept::{Refusal, refusals};
 use boundary::{Edge, Point, same_point};
 use geometry::polygon;
 
@@ -23,13 +20,6 @@ use geometry::polygon;
 pub struct Makings {
     pub vertices: u32,
     pub reversed: bool,
-}
-
-// What the tests say of it: what making finds, or why it is turned away.
-#[derive(Clone, Copy)]
-pub enum Made {
-    Whole(Makings),
-    Unmade(Refusal),
 }
 
 // Steps in µm.
@@ -67,7 +57,7 @@ fn kept_vertices(s: &[u8], from: usize, n: usize) -> usize
 
 // Tests 7 and 8 of n vertices, in one pass over the edges. Each vertex is read once: the end of one edge is the
 // start of the next.
-fn edges_tested(s: &[u8], from: usize, n: usize) -> Verdict
+fn edges_tested(s: &[u8], from: usize, n: usize) -> Result<f64, Refusal>
     requires { InReach s.now from n }
     ensures { result ≡ edges_verdict (equal_neighbours (numbers_from s.now from n)) (area_of (edges (numbers_from s.now from n))) }
 {
@@ -77,55 +67,51 @@ fn edges_tested(s: &[u8], from: usize, n: usize) -> Verdict
     }
     let first = vertex_from(s, from, n, 0);
     let mut a = first;
-    let mut i = 0;
-    while i + 1 < n {
+    for i in 0..n - 1 {
         let b = vertex_from(s, from, n, i + 1);
         if same_point(a, b) {
-            return Verdict::TurnedAway(Refusal::EqualNeighbours);
+            return Err(Refusal::EqualNeighbours);
         }
         sum = sum + refusals::shoelace_term(Edge { a, b });
         a = b;
-        i += 1;
     }
     refusals::last_tested(sum, Edge { a, b: first })
 }
 
 // Tests 1 and 3 to 8 of n vertices, none of them beyond the reach, so that 5 and 6 pass.
-fn shape_tested(s: &[u8], from: usize, n: usize) -> Verdict
+fn shape_tested(s: &[u8], from: usize, n: usize) -> Result<f64, Refusal>
     requires { InReach s.now from n }
-    ensures { result ≡ given (shape_tested (numbers_from s.now from n)) (Area (area_of (edges (numbers_from s.now from n)))) TurnedAway }
+    ensures { result ≡ given (shape_tested (numbers_from s.now from n)) (Ok (area_of (edges (numbers_from s.now from n)))) Err }
 {
     if n < 3 {
-        return Verdict::TurnedAway(Refusal::TooFew);
+        return Err(Refusal::TooFew);
     }
     if 4096 < n {
-        return Verdict::TurnedAway(Refusal::TooMany);
+        return Err(Refusal::TooMany);
     }
     edges_tested(s, from, n)
 }
 
 // Making's tests of n vertices, none of them beyond the reach.
-fn making_tested(s: &[u8], from: usize, n: usize) -> Made
+fn making_tested(s: &[u8], from: usize, n: usize) -> Result<Makings, Refusal>
     requires { InReach s.now from n }
-    ensures { result ≡ given (shape_tested (kept (numbers_from s.now from n))) (Whole (makings_of (steps_from s.now from n))) Unmade }
+    ensures { result ≡ given (shape_tested (kept (numbers_from s.now from n))) (Ok (makings_of (steps_from s.now from n))) Err }
 {
     let m = kept_vertices(s, from, n);
-    match shape_tested(s, from, m) {
-        Verdict::Area(a) => Made::Whole(Makings {
-            vertices: m as u32,
-            reversed: a < 0.0,
-        }),
-        Verdict::TurnedAway(r) => Made::Unmade(r),
-    }
+    let area = shape_tested(s, from, m)?;
+    Ok(Makings {
+        vertices: m as u32,
+        reversed: area < 0.0,
+    })
 }
 
 // The tests that follow an XY record of n vertices.
-pub fn xy_tested(s: &[u8], from: usize, n: usize) -> Made
+pub fn xy_tested(s: &[u8], from: usize, n: usize) -> Result<Makings, Refusal>
     requires { from + 8 * n ≤ length s.now }
-    ensures { result ≡ given (xy_tested (steps_from s.now from n)) (Whole (makings_of (steps_from s.now from n))) Unmade }
+    ensures { result ≡ given (xy_tested (steps_from s.now from n)) (Ok (makings_of (steps_from s.now from n))) Err }
 {
     if stream::any_far(s, from, 2 * n) {
-        return Made::Unmade(Refusal::BeyondReach);
+        return Err(Refusal::BeyondReach);
     }
     making_tested(s, from, n)
 }
@@ -135,19 +121,17 @@ fn write(s: &[u8], from: usize, n: usize, back: bool, out: &mut [f64])
     requires { InReach s.now from n × (2 * n ≤ length out.old) }
     ensures { out.new ≡ at_front (coordinates_of (turned back (vertices (numbers_from s.now from n)))) out.old }
 {
-    let mut i = 0;
-    while i < n {
+    for i in 0..n {
         let p = vertex_from(s, from, n, polygon::source(back, n, i));
         out[2 * i] = p.x;
         out[2 * i + 1] = p.y;
-        i += 1;
     }
 }
 
 // Makes the outline of n vertices that pass the tests at the front of out, reversed where `back` says so: the
 // number of its vertices.
 pub fn write_made(s: &[u8], from: usize, n: usize, back: bool, out: &mut [f64]) -> u32
-    requires { (from + 8 * n ≤ length s.now) × (xy_tested (steps_from s.now from n) ≡ Passed) × (back ≡ negative_area (kept (numbers_from s.now from n))) × (length (made_of (numbers_from s.now from n)) ≤ length out.old) }
+    requires { (from + 8 * n ≤ length s.now) × (xy_tested (steps_from s.now from n) ≡ all_passed) × (back ≡ negative_area (kept (numbers_from s.now from n))) × (length (made_of (numbers_from s.now from n)) ≤ length out.old) }
     ensures { (result ≡ count (kept (numbers_from s.now from n))) × (out.new ≡ at_front (made_of (numbers_from s.now from n)) out.old) }
 {
     let m = kept_vertices(s, from, n);

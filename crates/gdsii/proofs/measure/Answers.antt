@@ -1,4 +1,5 @@
 -- `gdsii::measure` meets its contract: what is left gives the whole answer; a turn reads one record. Assumes nothing.
+use Rattle.accept.proofs.TestLaws.{handed_on}
 use mathlib.Core.Path.{sym, ◌∙◌}
 use Prim.Native.Nat.{◌+◌, ◌≤◌}
 use native.Mathlib.Omega.{arith}
@@ -19,8 +20,8 @@ record_read-requires c =
     let i = sizes c.loop-asked.invariant in
     (read_at (search rules) c.pair_at-t.ensures c.pair_at-size.ensures, i.0, i.1)
 
-pub returns-in-Refused : goal.returns-in-Refused
-returns-in-Refused c =
+pub returns-in_err-done : goal.returns-in_err-done
+returns-in_err-done c =
     let h : c.loop-asked.at + 4 ≤ length c.args.s.now = search rules in
     let u : Turn c.args.s.now c.loop-asked.asked c.loop-asked.at c.loop-asked.done c.loop-asked.signs c.pair_at-t.result c.pair_at-size.result c.asked_after-then.result c.record_read.result =
     record {
@@ -30,7 +31,7 @@ returns-in-Refused c =
       asks = c.asked_after-then.ensures;
       gives = c.record_read.ensures.value;
     } in
-    turn_refuses u c.in-Refused.is _
+    rw (handed_on c.from_residual.ensures.1) (turn_refuses u c.in_err-done.was _)
 
 pub loop-asked-smaller : goal.loop-asked-smaller
 loop-asked-smaller c =
@@ -43,7 +44,7 @@ loop-asked-smaller c =
       asks = c.asked_after-then.ensures;
       gives = c.record_read.ensures.value;
     } in
-    let f = turn_forward u c.in-Found.is in
+    let f = turn_forward u c.in_ok-done.was in
     omega arith
 
 pub loop-asked-preserved : goal.loop-asked-preserved
@@ -57,7 +58,7 @@ loop-asked-preserved c =
       asks = c.asked_after-then.ensures;
       gives = c.record_read.ensures.value;
     } in
-    turn_advances u c.in-Found.is (c.record_read.ensures.signs_after _ c.in-Found.is)
+    turn_advances u c.in_ok-done.was (c.record_read.ensures.signs_after _ c.in_ok-done.was)
 
 pub returns : goal.returns
 returns c = all_read c.loop-asked.invariant (sym c.is_at_end.ensures ∙ c.loop-asked-test.false)

@@ -1,6 +1,7 @@
 -- `gdsii::record_read` meets its contract. Assumes nothing.
+use mathlib.Core.Bool.{Bool}
 use Rattle.std.proofs.Common.{Ok, Err}
-use Rattle.accept.specs.Refusals.{all_passed}
+use Rattle.accept.specs.Refusals.{all_passed, Answer}
 use mathlib.Core.Path.{◌≡◌, sym, ◌∙◌}
 use mathlib.Core.Bool.{true, false}
 use mathlib.Core.List.{List}
@@ -11,7 +12,7 @@ use lib.Dec.{eqb}
 use lib.IntN.{ℤ}
 use lib.ListN.{drop, set}
 use Rattle.accept.specs.declared.Refusal.{Refusal}
-use Rattle.accept.proofs.TestLaws.{given_passed, given_failed}
+use Rattle.accept.proofs.TestLaws.{handed_on, given_passed, given_failed}
 use Rattle.stream.specs.declared.Awaited.{Awaited}
 use Rattle.stream.specs.Format.{XY}
 use Rattle.xy.specs.Outlines.{steps_from}
@@ -39,31 +40,31 @@ module _ (s : List ℕ) (at t n : ℕ) (then : Awaited) (A : AtRecord s at t n) 
   unfolding record_read
   read-refused e = given_failed e _ _
 
-  sign-outline : record_tested then (drop at s) ≡ all_passed → eqb t XY ≡ true → (S : List ℕ) → with_record_sign so (drop at s) S ≡ set S so.outlines (sign_of zs)
+  sign-outline : record_tested then (drop at s) ≡ all_passed → eqb t XY ≡ true → (S : List Bool) → with_record_sign so (drop at s) S ≡ set S so.outlines (sign_of zs)
   unfolding with_record_sign
   sign-outline e u S = rw (← A.type, u, outline_place s at t n then A e u)
 
-  sign-other : eqb t XY ≡ false → (S : List ℕ) → with_record_sign so (drop at s) S ≡ S
+  sign-other : eqb t XY ≡ false → (S : List Bool) → with_record_sign so (drop at s) S ≡ S
   unfolding with_record_sign
   sign-other u S = rw (← A.type, u)
 
-refused-not : (z : Size) (r : Refusal) → Err r ≡ Ok z → ⊥
+refused-not : (z : Size) (r : Refusal) → ◌≡◌ {A = Answer Size} (Err r) (Ok z) → ⊥
 refused-not z r e = let n : ◌≡◌ {A = ℕ} 0 1 = cc in omega arith
 
 pub overflow_sub-size : goal.overflow_sub-size
 overflow_sub-size c =
     let a = c.args in
-    (passed_whole a.s.now a.at a.t a.size a.then c.requires.0 (sym c.record_tested.ensures ∙ c.in-Passed.is)).0
+    (passed_whole a.s.now a.at a.t a.size a.then c.requires.0 (sym c.record_tested.ensures ∙ c.in_ok-record_tested.was)).0
 
 pub outline_read-requires : goal.outline_read-requires
 outline_read-requires c =
     let a = c.args in
-    (outline_room a.s.now a.at a.t a.size a.then c.requires.0 (sym c.record_tested.ensures ∙ c.in-Passed.is) (eq-eqb _ _ c.if-t-eq4099.true), search rules, search rules)
+    (outline_room a.s.now a.at a.t a.size a.then c.requires.0 (sym c.record_tested.ensures ∙ c.in_ok-record_tested.was) (eq-eqb _ _ c.if-t-eq4099.true), search rules, search rules)
 
 pub returns-then-t-eq4099 : goal.returns-then-t-eq4099
 returns-then-t-eq4099 c =
     let a = c.args in
-    let p = sym c.record_tested.ensures ∙ c.in-Passed.is in
+    let p = sym c.record_tested.ensures ∙ c.in_ok-record_tested.was in
     let u = eq-eqb _ _ c.if-t-eq4099.true in
     let o = c.outline_read.ensures in
     record {
@@ -71,21 +72,22 @@ returns-then-t-eq4099 c =
       signs_after = λ z e. o.signs_after z e ∙ sym (sign-outline a.s.now a.at a.t a.size a.then c.requires.0 a.done p u _);
     }
 
-pub returns-else-t-eq4099 : goal.returns-else-t-eq4099
-returns-else-t-eq4099 c =
+pub returns : goal.returns
+returns c =
     let a = c.args in
-    let p = sym c.record_tested.ensures ∙ c.in-Passed.is in
+    let p = sym c.record_tested.ensures ∙ c.in_ok-record_tested.was in
     let u = ne_eqb _ _ c.if-t-eq4099.false in
     record {
       value = sym (read-other a.s.now a.at a.t a.size a.then c.requires.0 a.done p u);
       signs_after = λ z e. sym (sign-other a.s.now a.at a.t a.size a.then c.requires.0 a.done u _);
     }
 
-pub returns-in-Failed : goal.returns-in-Failed
-returns-in-Failed c =
+pub returns-in_err-record_tested : goal.returns-in_err-record_tested
+returns-in_err-record_tested c =
     let a = c.args in
-    let p = sym c.record_tested.ensures ∙ c.in-Failed.is in
+    let p = sym c.record_tested.ensures ∙ c.in_err-record_tested.was in
+    let r = handed_on c.from_residual.ensures.1 in
     record {
-      value = sym (read-refused a.s.now a.at a.t a.size a.then c.requires.0 a.done p);
-      signs_after = λ z e. absurd (refused-not z _ e);
+      value = r ∙ sym (read-refused a.s.now a.at a.t a.size a.then c.requires.0 a.done p);
+      signs_after = λ z e. absurd (refused-not z _ (sym r ∙ e));
     }

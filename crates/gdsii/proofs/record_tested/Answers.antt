@@ -25,4 +25,4 @@ is_other_unit-other-requires c =
 pub returns : goal.returns
 returns c =
     let e = sym (ap₂ ◌||◌ c.is_astray.ensures c.misfits.ensures) ∙ c.if-is_astray-misfits.false in
-    rw (c.refusing.ensures, c.is_other_unit-other.ensures) (sym (order_passed c.args.s.now c.args.at c.args.t c.args.size c.args.then c.requires c.if-size-s.false e))
+    rw (c.refuse_when.ensures, c.is_other_unit-other.ensures) (sym (order_passed c.args.s.now c.args.at c.args.t c.args.size c.args.then c.requires c.if-size-s.false e))

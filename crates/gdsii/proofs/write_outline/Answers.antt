@@ -1,14 +1,11 @@
 -- `gdsii::write_outline` meets its contract: the outline from where the set ends on, and its count. Assumes nothing.
-use mathlib.Core.Path.{ap, ap₂, ◌∙◌}
-use Prim.Native.Nat.{ℕ}
+use mathlib.Core.Path.{ap₂, ◌∙◌}
 use native.Mathlib.Omega.{arith}
-use lib.Dec.{eqb}
 use Rattle.lists.proofs.StoreLaws.{part_front}
 use Rattle.accept.proofs.TestLaws.{passed_size}
 use Rattle.xy.specs.Outlines.{steps_from}
 use Rattle.xy.proofs.MakingLaws.{tested_makes}
 use Rattle.gdsii.specs.Answers.{set_lent}
-use Rattle.gdsii.proofs.WriteLaws.{sign_back}
 use borrow.Author.Rules.{rules}
 use Rattle.gdsii.proofs.write_outline.Goals as goal
 
@@ -16,7 +13,7 @@ pub write_made-m-requires : goal.write_made-m-requires
 write_made-m-requires c =
     let p = c.requires in
     let w = p.wide in
-    (p.within, p.passed, ap (λ (n : ℕ). eqb n 1) (c.at-back.ensures ∙ p.sign) ∙ sign_back _, search rules)
+    (p.within, p.passed, c.at-back.ensures ∙ p.sign, search rules)
 
 pub overflow_add-result-2 : goal.overflow_add-result-2
 overflow_add-result-2 c =

@@ -18,48 +18,34 @@ use Rattle.many.proofs.put_answers_in.Goals as goal
 
 pub loop-i-init : goal.loop-i-init
 unfolding run
-loop-i-init c = (search rules, refl, refl, search rules, search rules)
+loop-i-init c = (refl, refl)
 
 pub search_in-best-requires : goal.search_in-best-requires
 search_in-best-requires c =
-    let s = c in
-    let A = s.requires.0 in
-    (rw c.vertex_at-p.ensures (A.each c.loop-i.i (search rules)), A.boxed, s.requires.1, A.some, record { nodes = search rules; gaps = search rules })
-
-pub overflow_add-i : goal.overflow_add-i
-overflow_add-i c =
-    let t = c.loop-i-test.true in
-    let n = c.requires.0.few in
-    record { fits = omega arith }
+    let A = c.requires.0 in
+    (rw c.vertex_at-p.ensures (A.each c.loop-i.i (search rules)), A.boxed, c.requires.1, A.some)
 
 pub loop-i-preserved : goal.loop-i-preserved
 loop-i-preserved c =
-    let l = c in
-    let s = l in
-    let a = s.args in
-    let os = outlines_of a.v.now a.counts.now in
-    let n = outlines_length a.v.now a.counts.now in
-    let m = s.requires.0.some in
-    let t = c.loop-i-test.true in
-    let e = sym (answer_best os (vertex_at a.ps.now l.loop-i.i) (omega arith)) in
+    let a = c.args in
+    let os = outlines_of a.set.now.vertices.now a.set.now.counts.now in
+    let n = outlines_length a.set.now.vertices.now a.set.now.counts.now in
+    let m = c.requires.0.some in
+    let e = sym (answer_best os (vertex_at a.ps.now c.loop-i.i) (omega arith)) in
     let f = rw c.vertex_at-p.ensures at c.search_in-best.ensures in (
-      omega arith,
-      sets_more _ _ _ (λ k. (answer_at os a.ps.now k).outline) _ _ l.loop-i.invariant.1 (ap (λ (x : Best). x.outline) f ∙ ap (λ (x : NearestFields). x.outline) e) c.put.ensures,
-      sets_more _ _ _ (λ k. (answer_at os a.ps.now k).distance) _ _ l.loop-i.invariant.2 (ap (λ (x : Best). x.distance) f ∙ ap (λ (x : NearestFields). x.distance) e) c.put.ensures,
-      c.nodes-1.given ∙ l.loop-i.invariant.3,
-      c.gaps-1.given ∙ l.loop-i.invariant.4,
+      sets_more _ _ _ (λ k. (answer_at os a.ps.now k).outline) _ _ c.loop-i.invariant.0 (ap (λ (x : Best). x.outline) f ∙ ap (λ (x : NearestFields). x.outline) e) c.put.ensures,
+      sets_more _ _ _ (λ k. (answer_at os a.ps.now k).distance) _ _ c.loop-i.invariant.1 (ap (λ (x : Best). x.distance) f ∙ ap (λ (x : NearestFields). x.distance) e) c.put-in-loop-i.ensures,
     )
 
 pub shape_of-near : goal.shape_of-near
-shape_of-near c = ap length c.loop-i.invariant.1 ∙ simp length-sets
+shape_of-near c = ap length c.loop-i.invariant.0 ∙ simp length-sets
 
 pub shape_of-distances : goal.shape_of-distances
-shape_of-distances c = ap length c.loop-i.invariant.2 ∙ simp length-sets
+shape_of-distances c = ap length c.loop-i.invariant.1 ∙ simp length-sets
 
 pub returns : goal.returns
 returns c =
-    let s = c in
-    let a = s.args in
+    let a = c.args in
     let inv = c.loop-i.invariant in
-    let z = le_antisymm inv.0 c.loop-i-test.false in
-    rw (inv.1, inv.2, z) (lists_written (outlines_of a.v.now a.counts.now) a.ps.now a.near.now a.distances.now s.requires.3.0 s.requires.3.1)
+    let z = le_antisymm (search rules) c.loop-i-test.false in
+    rw (inv.0, inv.1, z) (lists_written (outlines_of a.set.now.vertices.now a.set.now.counts.now) a.ps.now a.near.now a.distances.now c.requires.2.0 c.requires.2.1)

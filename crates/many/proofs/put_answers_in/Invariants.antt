@@ -1,9 +1,6 @@
 -- `many::put_answers_in` meets its contract: the answers so far stand at the front of both lists. Assumes nothing.
 use mathlib.Core.Path.{◌≡◌}
-use Prim.Native.Nat.{◌-◌, ◌≤◌}
-use lib.ListN.{length}
 use lib.Seq.{sets}
-use Rattle.boundary.specs.Outline.{count}
 use Rattle.lists.specs.Lists.{run}
 use Rattle.set.specs.Set.{outlines_of}
 use Rattle.many.proofs.ManyLaws.{answer_at}
@@ -11,8 +8,5 @@ use Rattle.many.proofs.put_answers_in.Given as goal
 
 abbrev pub invariant-loop-i : goal.invariant-loop-i
 invariant-loop-i l =
-    (l.i ≤ count l.ps) × (l.near ≡ sets l.initial.near 0 (run (λ k. (answer_at (outlines_of l.v l.counts) l.ps k).outline) 0 l.i))
-    × (l.distances ≡ sets l.initial.distances 0 (run (λ k. (answer_at (outlines_of l.v l.counts) l.ps k).distance) 0 l.i)) × (length l.nodes ≡ 512) × (length l.gaps ≡ 512)
-
-abbrev pub decreases-loop-i : goal.decreases-loop-i
-decreases-loop-i l = count l.ps - l.i
+    (l.near ≡ sets l.initial.near 0 (run (λ k. (answer_at (outlines_of l.set.vertices.now l.set.counts.now) l.ps k).outline) 0 l.i))
+    × (l.distances ≡ sets l.initial.distances 0 (run (λ k. (answer_at (outlines_of l.set.vertices.now l.set.counts.now) l.ps k).distance) 0 l.i))

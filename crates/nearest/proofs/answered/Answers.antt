@@ -1,5 +1,5 @@
 -- `nearest::answered` meets its contract. Assumes nothing.
-use Rattle.std.proofs.Common.{Ok}
+use Rattle.std.proofs.Common.{None, Some}
 use mathlib.Core.Path.{sym, ap, ◌∙◌}
 use borrow.Author.Tests.{eq-eqb, ne_eqb}
 use Rattle.accept.specs.Answers.{Outcome, in_fields}
@@ -25,4 +25,4 @@ returns c =
     let s = i in
     let a = s.args in
     let n = outlines_length a.v.now a.counts.now in
-    rw (ne_eqb _ 0 (λ z. i.if-counts-eq0.false (sym n ∙ z))) (ap (λ (o : Outcome Best IndexBuffer). in_fields OkSome o) c.found.ensures)
+    rw (ne_eqb _ 0 (λ z. i.if-counts-eq0.false (sym n ∙ z))) (ap (λ (o : Outcome Best IndexBuffer). in_fields (λ (b : Best). Some b) o) c.found.ensures)

@@ -5,7 +5,6 @@ use native.Mathlib.Omega.{arith}
 use lib.ListN.{length}
 use Rattle.boundary.proofs.KnownLaws.{owned_point}
 use Rattle.boundary.proofs.GapLaws.{squares_number}
-use Rattle.search.proofs.HeapLaws.{heaped_none}
 use Rattle.index.specs.Buffer.{buffer}
 use Rattle.set.specs.Set.{outlines_of}
 use Rattle.set.proofs.SetLaws.{outlines_length}
@@ -19,68 +18,57 @@ none_of : {n : ℕ} → n ≤ 0 → n ≡ 0
 none_of h = omega arith
 
 pub push-requires : goal.push-requires
-push-requires c = (rw c.clear.ensures (omega arith), rw c.clear.ensures (heaped_none _), rw c.entry_for.ensures (squares_number _ _))
+push-requires c = (rw c.clear.ensures (omega arith), rw c.entry_for.ensures (squares_number _ _))
 
-pub overflow_cast-counts : goal.overflow_cast-counts
-overflow_cast-counts c =
+pub overflow_cast-set : goal.overflow_cast-set
+overflow_cast-set c =
     let a = c.args in
     let h = c.requires.0.fitting.size in
-    let l = outlines_length a.v.now a.counts.now in
+    let l = outlines_length a.set.now.vertices.now a.set.now.counts.now in
     search rules
 
 pub loop-e-init : goal.loop-e-init
 loop-e-init c =
     let a = c.args in
-    let os = outlines_of a.v.now a.counts.now in
-    let B = buffer a.corners.now a.links.now a.items.now in
+    let os = outlines_of a.set.now.vertices.now a.set.now.counts.now in
+    let B = buffer a.index.now.corners.now a.index.now.links.now a.index.now.items.now in
     let A = c.requires.0 in
-    let P = owned_point c.well_formed.1.1.1.1.0 A.point in
+    let P = owned_point c.well_formed.1.1.0 A.point in
     let h = set_search_first os A.fitting A.held a.p P B c.requires.2 _ _ (rw (c.entry_for.ensures, c.clear.ensures) at c.push.ensures.pushed) in
-    rw (c.none_kept-kept.ensures, ← outlines_length a.v.now a.counts.now, c.push.ensures.len, c.clear.ensures) h
-
-pub pop-requires : goal.pop-requires
-pop-requires c =
-    let a = c.args in
-    let os = outlines_of a.v.now a.counts.now in
-    let B = buffer a.corners.now a.links.now a.items.now in
-    let D = magnitude_at os a.p in
-    let n = length os in
-    let S = c.loop-e.invariant in
-    let h = searching_few B most a.p D n S in
-    (omega arith, S.heaped)
+    rw (c.none_kept-kept.ensures, ← outlines_length a.set.now.vertices.now a.set.now.counts.now, c.push.ensures.len, c.clear.ensures) h
 
 pub returns-then-kept-e : goal.returns-then-kept-e
 returns-then-kept-e c =
     let a = c.args in
-    let os = outlines_of a.v.now a.counts.now in
-    let B = buffer a.corners.now a.links.now a.items.now in
+    let os = outlines_of a.set.now.vertices.now a.set.now.counts.now in
+    let B = buffer a.index.now.corners.now a.index.now.links.now a.index.now.items.now in
     let D = magnitude_at os a.p in
     let n = length os in
     let A = c.requires.0 in
-    let P = owned_point c.well_formed.1.1.1.1.0 A.point in
+    let P = owned_point c.well_formed.1.1.0 A.point in
     let S = c.loop-e.invariant in
-    let k = outlines_length a.v.now a.counts.now in
+    let k = outlines_length a.set.now.vertices.now a.set.now.counts.now in
     let m = c.requires.3 in
     set_search_end os A.fitting A.held a.p P B c.requires.2 (omega arith) _ S.among (upto_above B most a.p D n S c.in-Some.ensures.popped c.if-kept-e.true)
 
 pub look-kept-requires : goal.look-kept-requires
 look-kept-requires c =
     let a = c.args in
-    let os = outlines_of a.v.now a.counts.now in
-    let B = buffer a.corners.now a.links.now a.items.now in
+    let os = outlines_of a.set.now.vertices.now a.set.now.counts.now in
+    let B = buffer a.index.now.corners.now a.index.now.links.now a.index.now.items.now in
     let D = magnitude_at os a.p in
     let n = length os in
     let A = c.requires.0 in
-    let P = owned_point c.well_formed.1.1.1.1.0 A.point in
+    let P = owned_point c.well_formed.1.1.0 A.point in
     let S = c.loop-e.invariant in
     let H = c.in-Some.ensures.popped in
-    (A, c.requires.1, rw (c.at-first.ensures, c.at-count.ensures) (looked_within B most a.p D n S H (magnitude_numbers os A.fitting A.held a.p P) (rw c.at-count.ensures at c.if-count-gt0.true)), S.clear)
+    (A, c.requires.1, rw (c.first_at-first.ensures, c.count_at-count.ensures) (looked_within B most a.p D n S H (magnitude_numbers os A.fitting A.held a.p P) (rw c.count_at-count.ensures at c.if-count-gt0.true)), S.clear)
 
 pub loop-e-smaller-then-count-gt0 : goal.loop-e-smaller-then-count-gt0
 loop-e-smaller-then-count-gt0 c =
     let a = c.args in
-    let os = outlines_of a.v.now a.counts.now in
-    let B = buffer a.corners.now a.links.now a.items.now in
+    let os = outlines_of a.set.now.vertices.now a.set.now.counts.now in
+    let B = buffer a.index.now.corners.now a.index.now.links.now a.index.now.items.now in
     let D = magnitude_at os a.p in
     let n = length os in
     rw c.in-Some.ensures.len (popped_less B most a.p D n c.loop-e.invariant c.in-Some.ensures.popped)
@@ -88,66 +76,66 @@ loop-e-smaller-then-count-gt0 c =
 pub loop-e-preserved-then-count-gt0 : goal.loop-e-preserved-then-count-gt0
 loop-e-preserved-then-count-gt0 c =
     let a = c.args in
-    let os = outlines_of a.v.now a.counts.now in
-    let B = buffer a.corners.now a.links.now a.items.now in
+    let os = outlines_of a.set.now.vertices.now a.set.now.counts.now in
+    let B = buffer a.index.now.corners.now a.index.now.links.now a.index.now.items.now in
     let D = magnitude_at os a.p in
     let n = length os in
     let A = c.requires.0 in
-    let P = owned_point c.well_formed.1.1.1.1.0 A.point in
+    let P = owned_point c.well_formed.1.1.0 A.point in
     let S = c.loop-e.invariant in
     let H = c.in-Some.ensures.popped in
-    let f = rw c.at-count.ensures at c.if-count-gt0.true in
+    let f = rw c.count_at-count.ensures at c.if-count-gt0.true in
     let e = c.look-kept.ensures in
-    let r = rw (c.at-first.ensures, c.at-count.ensures) at e.0 in
+    let r = rw (c.first_at-first.ensures, c.count_at-count.ensures) at e.0 in
     rw c.in-Some.ensures.len (searching_leaf B most a.p D n S H (magnitude_numbers os A.fitting A.held a.p P) f r e.1)
 
 pub wait_both-requires : goal.wait_both-requires
 wait_both-requires c =
     let a = c.args in
-    let os = outlines_of a.v.now a.counts.now in
-    let B = buffer a.corners.now a.links.now a.items.now in
+    let os = outlines_of a.set.now.vertices.now a.set.now.counts.now in
+    let B = buffer a.index.now.corners.now a.index.now.links.now a.index.now.items.now in
     let D = magnitude_at os a.p in
     let n = length os in
     let S = c.loop-e.invariant in
     let H = c.in-Some.ensures.popped in
     let L = c.in-Some.ensures.len in
-    let e = rw c.at-count.ensures at (none_of c.if-count-gt0.false) in
+    let e = rw c.count_at-count.ensures at (none_of c.if-count-gt0.false) in
     let m = children_small B most a.p D n S H e in
-    let f = c.at-first.ensures in
+    let f = c.first_at-first.ensures in
     let h = searching_few B most a.p D n S in
-    (omega arith, omega arith, (rw L H.heaped, (squares_number _ _, squares_number _ _)))
+    (omega arith, omega arith, (squares_number _ _, squares_number _ _))
 
 pub loop-e-smaller : goal.loop-e-smaller
 loop-e-smaller c =
     let a = c.args in
-    let os = outlines_of a.v.now a.counts.now in
-    let B = buffer a.corners.now a.links.now a.items.now in
+    let os = outlines_of a.set.now.vertices.now a.set.now.counts.now in
+    let B = buffer a.index.now.corners.now a.index.now.links.now a.index.now.items.now in
     let D = magnitude_at os a.p in
     let n = length os in
-    let e = rw c.at-count.ensures at (none_of c.if-count-gt0.false) in
-    rw (c.wait_both.ensures.len, c.in-Some.ensures.len) (opened_less B most a.p D n c.loop-e.invariant c.in-Some.ensures.popped e (rw (c.at-first.ensures, c.in-Some.ensures.len) at c.wait_both.ensures.opened))
+    let e = rw c.count_at-count.ensures at (none_of c.if-count-gt0.false) in
+    rw (c.wait_both.ensures.len, c.in-Some.ensures.len) (opened_less B most a.p D n c.loop-e.invariant c.in-Some.ensures.popped e (rw (c.first_at-first.ensures, c.in-Some.ensures.len) at c.wait_both.ensures.opened))
 
 pub loop-e-preserved : goal.loop-e-preserved
 loop-e-preserved c =
     let a = c.args in
-    let os = outlines_of a.v.now a.counts.now in
-    let B = buffer a.corners.now a.links.now a.items.now in
+    let os = outlines_of a.set.now.vertices.now a.set.now.counts.now in
+    let B = buffer a.index.now.corners.now a.index.now.links.now a.index.now.items.now in
     let D = magnitude_at os a.p in
     let n = length os in
-    let e = rw c.at-count.ensures at (none_of c.if-count-gt0.false) in
-    rw (c.wait_both.ensures.len, c.in-Some.ensures.len) (searching_inner B most a.p D n c.loop-e.invariant c.in-Some.ensures.popped e (rw (c.at-first.ensures, c.in-Some.ensures.len) at c.wait_both.ensures.opened))
+    let e = rw c.count_at-count.ensures at (none_of c.if-count-gt0.false) in
+    rw (c.wait_both.ensures.len, c.in-Some.ensures.len) (searching_inner B most a.p D n c.loop-e.invariant c.in-Some.ensures.popped e (rw (c.first_at-first.ensures, c.in-Some.ensures.len) at c.wait_both.ensures.opened))
 
 pub returns : goal.returns
 returns c =
     let a = c.args in
-    let os = outlines_of a.v.now a.counts.now in
-    let B = buffer a.corners.now a.links.now a.items.now in
+    let os = outlines_of a.set.now.vertices.now a.set.now.counts.now in
+    let B = buffer a.index.now.corners.now a.index.now.links.now a.index.now.items.now in
     let D = magnitude_at os a.p in
     let n = length os in
     let A = c.requires.0 in
-    let P = owned_point c.well_formed.1.1.1.1.0 A.point in
+    let P = owned_point c.well_formed.1.1.0 A.point in
     let S = c.loop-e.invariant in
-    let k = outlines_length a.v.now a.counts.now in
+    let k = outlines_length a.set.now.vertices.now a.set.now.counts.now in
     let m = c.requires.3 in
     let z = c.in_default.ensures.none.0 refl in
     set_search_end os A.fitting A.held a.p P B c.requires.2 (omega arith) _ S.among (upto_none B most a.p D n S (omega arith))

@@ -1,5 +1,4 @@
 -- `search::search_in` meets its contract: every outline is below a node that waits, or the best is at most it. Assumes nothing.
-use mathlib.Core.Path.{◌≡◌}
 use lib.ListN.{length}
 use Rattle.search.specs.Heap.{entry_at, total_weight}
 use Rattle.index.specs.Buffer.{buffer}
@@ -11,8 +10,8 @@ use Rattle.search.proofs.search_in.Given as goal
 
 abbrev pub invariant-loop-e : goal.invariant-loop-e
 invariant-loop-e l =
-    Searching (buffer l.corners l.links l.items) most l.p (magnitude_at (outlines_of l.v l.counts) l.p) (length (outlines_of l.v l.counts)) (entry_at l.waiting.entries) l.waiting.len l.kept
+    Searching (buffer l.index.corners.now l.index.links.now l.index.items.now) most l.p (magnitude_at (outlines_of l.set.vertices.now l.set.counts.now) l.p) (length (outlines_of l.set.vertices.now l.set.counts.now)) (entry_at l.waiting.entries) l.waiting.len l.kept
 
 abbrev pub decreases-loop-e : goal.decreases-loop-e
 decreases-loop-e l =
-    total_weight (size_of (buffer l.corners l.links l.items) most l.p (magnitude_at (outlines_of l.v l.counts) l.p) (length (outlines_of l.v l.counts))) (entry_at l.waiting.entries) l.waiting.len
+    total_weight (size_of (buffer l.index.corners.now l.index.links.now l.index.items.now) most l.p (magnitude_at (outlines_of l.set.vertices.now l.set.counts.now) l.p) (length (outlines_of l.set.vertices.now l.set.counts.now))) (entry_at l.waiting.entries) l.waiting.len

@@ -53,7 +53,7 @@ returns-then-same_point c =
     let q = c in
     let b = q in
     let inv = q.loop-i.invariant in
-    let e = next_edge b.args.s.now b.args.from b.args.n q.loop-i.i q.loop-i.a c.vertex_from-b.result inv.0 inv.1 c.loop-i-test.true c.vertex_from-b.ensures in
+    let e = next_edge b.args.s.now b.args.from b.args.n q.loop-i.i q.loop-i.a c.vertex_from-b.result inv.0 inv.1 (omega arith) c.vertex_from-b.ensures in
     let s = sym (ap joins e) ∙ sym c.same_point.ensures ∙ c.if-same_point.true in
     rw (edges_from b.args.s.now b.args.from b.args.n b.requires.within, ← inv.2, fold_run_next found _ _ _ _ inv.0, s, fold_found joins)
 
@@ -63,7 +63,7 @@ loop-i-preserved c =
     let q = d in
     let a = q.args in
     let inv = q.loop-i.invariant in
-    let e = next_edge a.s.now a.from a.n q.loop-i.i q.loop-i.a d.vertex_from-b.result inv.0 inv.1 d.loop-i-test.true d.vertex_from-b.ensures in
+    let e = next_edge a.s.now a.from a.n q.loop-i.i q.loop-i.a d.vertex_from-b.result inv.0 inv.1 (omega arith) d.vertex_from-b.ensures in
     let s = sym (ap joins e) ∙ sym c.same_point.ensures ∙ c.if-same_point.false in (
       search rules,
       d.vertex_from-b.ensures,
@@ -74,7 +74,7 @@ loop-i-preserved c =
 pub returns : goal.returns
 unfolding area_of
 returns c =
-    let l = c.loop-i-test.false in
+    let l : c.args.n ≤ c.loop-i.i + 1 = omega arith in
     let q = c in
     let b = q in
     let inv = q.loop-i.invariant in

@@ -27,6 +27,3 @@ invariant-loop-i l =
     × (l.a ≡ vertex_from l.s l.from l.i)
     × (fold found false (run (edge_from l.s l.from l.n) l.i (l.n - l.i)) ≡ any joins (run (edge_from l.s l.from l.n) 0 l.n))
     × (fold summed l.sum (run (edge_from l.s l.from l.n) l.i (l.n - l.i)) ≡ total shoelace_term (run (edge_from l.s l.from l.n) 0 l.n))
-
-abbrev pub decreases-loop-i : goal.decreases-loop-i
-decreases-loop-i l = l.n - l.i

@@ -1,15 +1,12 @@
 -- `xy::write` meets its contract: the points so far stand at the front, and the places past them are as they were. Assumes nothing.
 use mathlib.Core.Path.{◌≡◌}
 use mathlib.Core.List.{◌++◌}
-use Prim.Native.Nat.{◌≤◌, ◌-◌, ◌*◌}
-use lib.ListN.{length, drop}
+use Prim.Native.Nat.{◌*◌}
+use lib.ListN.{drop}
 use Rattle.lists.specs.Lists.{run}
 use Rattle.geometry.specs.Making.{coordinates_of}
 use Rattle.xy.proofs.MakingLaws.{point_from}
 use Rattle.xy.proofs.write.Given as goal
 
 abbrev pub invariant-loop-i : goal.invariant-loop-i
-invariant-loop-i l = (l.i ≤ l.n) × (l.out ≡ coordinates_of (run (point_from l.s l.from l.n l.back) 0 l.i) ++ drop (2 * l.i) l.initial.out) × (length l.out ≡ length l.initial.out)
-
-abbrev pub decreases-loop-i : goal.decreases-loop-i
-decreases-loop-i l = l.n - l.i
+invariant-loop-i l = l.out ≡ coordinates_of (run (point_from l.s l.from l.n l.back) 0 l.i) ++ drop (2 * l.i) l.initial.out

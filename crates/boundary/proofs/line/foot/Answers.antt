@@ -45,9 +45,6 @@ returns-then-clamps_to_one c =
     let len = rw (q.squares-l2.ensures, q.way-w.ensures) at d.if-l2.true in
     foot_end s.e s.p len (rw (q.squares-l2.ensures, q.way-w.ensures) at (sym c.clamps_to_one.ensures ∙ c.if-clamps_to_one.true))
 
-pub clamps_to_itself-requires : goal.clamps_to_itself-requires
-clamps_to_itself-requires c = sym c.clamps_to_one.ensures ∙ c.if-clamps_to_one.false
-
 pub returns-then-clamps_to_itself : goal.returns-then-clamps_to_itself
 unfolding of_bits
 returns-then-clamps_to_itself c =

@@ -6,9 +6,6 @@ use Rattle.boundary.proofs.FieldLaws.{edge_in_field_lem}
 use Rattle.distance.proofs.SearchLaws.{found_near, found_foot}
 use Rattle.distance.proofs.nearest.distance.Goals as goal
 
-pub edge_at-requires : goal.edge_at-requires
-edge_at-requires c = c.requires.2.edge
-
 pub signed-requires : goal.signed-requires
 signed-requires c =
     let f = c.requires.2 in

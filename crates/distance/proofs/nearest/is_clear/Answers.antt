@@ -9,6 +9,3 @@ pub returns-then-m : goal.returns-then-m
 unfolding of_bits
 returns-then-m c =
     sym (above_threshold c.args.m c.requires.0 (owned_point c.well_formed.1.1.0 c.requires.1) c.if-m.true)
-
-pub returns : goal.returns
-returns c = rw c.rounding.ensures

@@ -11,8 +11,5 @@ float_from_bits-z c = bits_not_nan _ (omega arith)
 pub float_from_bits-y0 : goal.float_from_bits-y0
 float_from_bits-y0 c = bits_not_nan _ (omega arith)
 
-pub float_to_bits-b : goal.float_to_bits-b
-float_to_bits-b c = lt_not_nan _ _ c.if-s.true
-
 pub float_from_bits-u : goal.float_from_bits-u
 float_from_bits-u c = trimmed_not_nan _ (mul-fits binary64 _ _) (lt_not_nan _ _ c.if-s.true)

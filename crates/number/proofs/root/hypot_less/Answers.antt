@@ -26,6 +26,3 @@ pub returns-then-clearly_less-2 : goal.returns-then-clearly_less-2
 returns-then-clearly_less-2 c =
     let s = c.requires in
     sym (lt_asym _ _ (is_true _ (hypot_clear s.2 s.3 s.0 s.1 (subst T (sym (sym c.clearly_less-2.ensures ∙ c.if-clearly_less-2.true)) tt))))
-
-pub returns : goal.returns
-returns c = rw (c.hypot.ensures, c.hypot-2.ensures)

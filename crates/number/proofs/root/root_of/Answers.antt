@@ -1,18 +1,9 @@
 -- `number::root::root_of` meets its contract: where the guess passes the check, its bits are those of the root, rounded. Assumes nothing.
 use Rattle.std.proofs.Common.{◌≡◌, ◌+◌, ◌*◌, ◌/◌, ◌%◌, ◌^◌, ap, ◌∙◌, arith}
 use lib.Ieee.{binary64, to_bits, of_bits}
-use Rattle.number.proofs.Tests.{lt_not_nan, bits_not_nan}
-use Rattle.number.proofs.NearRoot.{root_is, digits_le}
+use Rattle.number.proofs.Tests.{bits_not_nan}
+use Rattle.number.proofs.NearRoot.{root_is}
 use Rattle.number.proofs.root.root_of.Goals as goal
-
-pub overflow_mul-d : goal.overflow_mul-d
-overflow_mul-d c = omega (arith, digits_le c.args.w c.requires.1)
-
-pub float_to_bits-r : goal.float_to_bits-r
-float_to_bits-r c = lt_not_nan _ _ c.if-g.true
-
-pub is_root-requires : goal.is_root-requires
-is_root-requires c = omega (arith, digits_le c.args.w c.requires.1)
 
 pub float_from_bits-result : goal.float_from_bits-result
 float_from_bits-result c = bits_not_nan _ (omega arith)

@@ -3,7 +3,6 @@ use Rattle.std.proofs.Common.{◌≡◌, ◌/◌, ◌%◌, ◌^◌, true, false,
 use lib.Ieee.{Float, inf, lt, binary64, fits, of_bits, to_bits, div}
 use Rattle.number.specs.Exact.{zeroᶠ}
 use Rattle.number.specs.Root.{root_of}
-use Rattle.number.proofs.Tests.{lt_not_nan}
 use Rattle.number.proofs.Fields.{Main, main_law, is_positive, at_infinity, not_above, Moved, moved}
 use Rattle.number.proofs.root.sqrt.Goals as goal
 
@@ -13,9 +12,6 @@ main_at x w p q = main_law x (subst T (sym w) tt) (is_positive x p q)
 
 moved_at : (x : Float) → Main x (to_bits binary64 x) → to_bits binary64 x / 2 ^ 52 ≡ 0 → Moved (to_bits binary64 x % 2 ^ 52)
 moved_at x m e = moved (to_bits binary64 x % 2 ^ 52) (m.some e) (omega arith)
-
-pub float_to_bits-b : goal.float_to_bits-b
-float_to_bits-b c = lt_not_nan _ _ c.if-x.true
 
 pub overflow_sub-t : goal.overflow_sub-t
 unfolding of_bits div

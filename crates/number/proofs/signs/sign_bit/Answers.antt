@@ -10,8 +10,5 @@ returns-then-is_nan c = sym (sign_of_nan c.args.x (sym c.is_nan.ensures.value �
 number : (x : Float) (r : Bool) → r ≡ is_nan x → r ≡ false → T (not (is_nan x))
 number x r e f = subst (λ (b : Bool). T (not b)) (sym (sym e ∙ f)) tt
 
-pub float_to_bits-result : goal.float_to_bits-result
-float_to_bits-result c = number _ _ c.is_nan.ensures.value c.if-is_nan.false
-
 pub returns : goal.returns
 returns c = sign_of_bits c.args.x (subst T (sym c.well_formed.0.1) tt) (number _ _ c.is_nan.ensures.value c.if-is_nan.false)

@@ -1,5 +1,5 @@
 -- `search::heap::rise` meets its contract: while the entry is before its parent, the two are exchanged. The measure is its place. Assumes nothing.
-use mathlib.Core.Path.{sym, ap, ◌∙◌}
+use mathlib.Core.Path.{sym, ◌∙◌}
 use native.Mathlib.Omega.{arith}
 use borrow.Author.Rules.{rules}
 use Rattle.search.proofs.SiftLaws.{moving, rises_says, risen, rise_turn}
@@ -17,8 +17,8 @@ loop-p-smaller c = let up = rises_says _ _ (sym c.is_rising.ensures ∙ c.loop-p
 pub loop-p-preserved : goal.loop-p-preserved
 loop-p-preserved c =
     let L = c.loop-p in
-    let E = c.exchange.ensures in
-    let step = rise_turn L.invariant.1 (omega arith) L.invariant.2 (omega arith) (sym c.is_rising.ensures ∙ c.loop-p-test.true) E in
+    let E = c.swap.ensures in
+    let step = rise_turn L.invariant.1 (omega arith) L.invariant.2 (omega arith) (sym c.is_rising.ensures ∙ c.loop-p-test.true) E.after E.len in
     (omega arith, step.0, step.1)
 
 pub returns : goal.returns

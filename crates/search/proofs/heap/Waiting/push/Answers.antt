@@ -5,8 +5,8 @@ use Rattle.search.proofs.heap.Waiting.push.Goals as goal
 
 pub rise-requires : goal.rise-requires
 rise-requires c =
-    let p = c.requires in
-    (omega arith, push_rising c.args.self.now.entries c.args.self.now.len c.args.entry (omega arith) p.1 p.2)
+    let s = c.args.self.now in
+    (omega arith, push_rising s.entries s.len c.args.entry (omega arith) s.heaped c.requires.1)
 
 pub returns-clause-pushed : goal.returns-clause-pushed
 returns-clause-pushed c =
