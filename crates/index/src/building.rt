@@ -1,5 +1,5 @@
 // The index of a whole list of boxes, with the space that the build needs.
-ghost use Rattle.std.specs.Prelude.{◌≡◌, ◌*◌, ◌≤◌, length};
+ghost use Rattle.std.specs.Prelude.{◌≡◌, ◌≤◌, length};
 ghost use Rattle.lists.specs.Lists.{run};
 ghost use Rattle.boxes.specs.BoxLists.{box_count, wide_at};
 ghost use Rattle.tree.specs.Tree.{hull_of, index_of};

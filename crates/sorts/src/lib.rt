@@ -72,7 +72,7 @@ pub fn sorted(keys: &[f64], s: &mut [u32])
     s.sort_unstable_by(|a, b| compared(keys, *a, *b));
 }
 
-// Parts a list: the number goes before it, where its key does too.
+// A place in the order by key, then by number: what goes before it, and what does not, parts a list.
 #[derive(Clone, Copy)]
 pub struct Pivot {
     pub key: f64,

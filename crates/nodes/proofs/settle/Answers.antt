@@ -7,11 +7,6 @@ use lib.Dec.{leb}
 use mathlib.Core.Path.{sym, ◌∙◌}
 use Rattle.nodes.proofs.settle.Goals as goal
 
-pub split-requires : goal.split-requires
-split-requires c =
-    let p = c.requires in
-    (p.0, p.1.room, c.spans_of-spans.ensures.1)
-
 pub returns-then-n-le4 : goal.returns-then-n-le4
 returns-then-n-le4 c =
     let a = c.args in
