@@ -13,6 +13,7 @@ ghost use Rattle.accept.specs.Refusals.{Test, all_passed, ◌refusing◌when◌,
 ghost use Rattle.accept.specs.Verdicts.{edges_verdict, test_of};
 
 use crate::Refusal;
+use boundary::outline::Vertices;
 use boundary::{Bounds, Edge, Point, same_point};
 
 const LIMIT: f64 = 1048576.0;
@@ -120,18 +121,18 @@ pub fn last_tested(sum: f64, e: Edge) -> Result<f64, Refusal>
 }
 
 // Tests 7 and 8, in one pass over the edges. Each vertex is read once: the end of one edge is the start of the next.
-fn edges_tested(v: &[f64]) -> Result<f64, Refusal>
-    ensures { result ≡ edges_verdict (equal_neighbours v.now) (area_of (edges v.now)) }
+pub fn edges_tested<V: Vertices>(v: V) -> Result<f64, Refusal>
+    ensures { result ≡ edges_verdict (equal_neighbours (V.numbers v)) (area_of (edges (V.numbers v))) }
 {
-    let n = v.len() / 2;
+    let n = v.vertex_count();
     let mut sum = 0.0;
     if n == 0 {
         return area_tested(sum / 2.0);
     }
-    let first = boundary::vertex_at(v, 0);
+    let first = v.vertex(0);
     let mut a = first;
     for i in 0..n - 1 {
-        let b = boundary::vertex_at(v, i + 1);
+        let b = v.vertex(i + 1);
         if same_point(a, b) {
             return Err(Refusal::EqualNeighbours);
         }
