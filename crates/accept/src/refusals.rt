@@ -9,7 +9,7 @@ ghost use Rattle.lists.specs.Lists.{any};
 ghost use Rattle.boundary.specs.Outline.{same_point, edges};
 ghost use Rattle.accept.specs.declared.Refusal.TheVariants.{NegativeArea};
 ghost use Rattle.accept.specs.Area.{shoelace_term, two, area_of};
-ghost use Rattle.accept.specs.Refusals.{Test, all_passed, ◌refusing◌when◌, given, number, negative_area, equal_neighbours, values_tested, shape_tested, outline_tested};
+ghost use Rattle.accept.specs.Refusals.{Test, all_passed, ◌refusing◌when◌, given, number, negative_area, equal_neighbours, size_tested, values_tested, shape_tested, outline_tested};
 ghost use Rattle.accept.specs.Verdicts.{edges_verdict, test_of};
 
 use crate::Refusal;
@@ -155,20 +155,27 @@ pub fn values_tested(v: &[f64]) -> Result<f64, Refusal>
     edges_tested(v)
 }
 
-// Tests 1 and 3 to 8.
-pub fn shape_tested(v: &[f64]) -> Result<f64, Refusal>
-    ensures { result ≡ given (shape_tested v.now) (Ok (area_of (edges v.now))) Err }
+// Tests 3 and 4 of n vertices.
+pub fn size_tested(n: usize) -> Result<(), Refusal>
+    ensures { result ≡ size_tested n }
 {
-    let n = v.len() / 2;
-    if v.len() % 2 == 1 {
-        return Err(Refusal::OddCount);
-    }
     if n < 3 {
         return Err(Refusal::TooFew);
     }
     if 4096 < n {
         return Err(Refusal::TooMany);
     }
+    Ok(())
+}
+
+// Tests 1 and 3 to 8.
+pub fn shape_tested(v: &[f64]) -> Result<f64, Refusal>
+    ensures { result ≡ given (shape_tested v.now) (Ok (area_of (edges v.now))) Err }
+{
+    if v.len() % 2 == 1 {
+        return Err(Refusal::OddCount);
+    }
+    size_tested(v.len() / 2)?;
     values_tested(v)
 }
 
