@@ -14,7 +14,7 @@ use Rattle.boundary.specs.Outline.{count}
 use Rattle.accept.specs.declared.Refusal.{Refusal}
 use Rattle.accept.specs.declared.Refusal.TheVariants.{OddCount, BadCounts, TooFew, TooMany, NotFinite, OutsideField, EqualNeighbours, ZeroArea, NegativeArea, BadPoint, BadBox, BadEllipse, ShortBuffer, LongList, BadPointCount, BadRecord, OtherUnit, BeyondReach}
 use Rattle.std.proofs.Common.{Ok, Err}
-use Rattle.accept.specs.Refusals.{Answer, Test, all_passed, number, ◌refusing◌when◌, given, not_finite, outside_field, equal_neighbours, zero_area, negative_area, count_tested, values_tested, shape_tested, outline_tested}
+use Rattle.accept.specs.Refusals.{Answer, Test, all_passed, number, ◌refusing◌when◌, given, not_finite, outside_field, equal_neighbours, zero_area, negative_area, size_tested, count_tested, values_tested, shape_tested, outline_tested}
 
 -- ---- one test
 abbrev failed : Test → Bool
@@ -138,6 +138,11 @@ passed_size v e = ltb-false 4096 (count v) (shape v e).few
 pub tested : {v : List Float} → Shape v → shape_tested v ≡ all_passed
 unfolding shape_tested
 tested s = rw (s.even, s.enough, s.few, s.all_finite, s.all_in_field, s.apart, s.nonzero)
+
+-- by the size, of numbers that are not odd in count
+pub sized : (v : List Float) → eqb (length v % 2) 1 ≡ false → shape_tested v ≡ given (size_tested (count v)) (values_tested v) Err
+unfolding shape_tested count_tested size_tested
+sized v e = rw e
 
 -- ---- and test 9
 pub outline_shape_passed : (v : List Float) → outline_tested v ≡ all_passed → shape_tested v ≡ all_passed

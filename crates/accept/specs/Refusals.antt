@@ -77,6 +77,11 @@ abbrev pub negative_area : List Float → Bool
 negative_area v = lt (area_of (edges v)) zeroᶠ
 
 -- ---- the tests of an outline
+-- 3 and 4, of n vertices
+unfoldable pub size_tested : ℕ → Test
+unfolding ◌refusing◌when◌
+size_tested n = all_passed refusing TooFew when ltb n 3 refusing TooMany when ltb 4096 n
+
 -- 1, 3 and 4
 unfoldable pub count_tested : List Float → Test
 unfolding ◌refusing◌when◌

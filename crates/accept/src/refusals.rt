@@ -9,10 +9,11 @@ ghost use Rattle.lists.specs.Lists.{any};
 ghost use Rattle.boundary.specs.Outline.{same_point, edges};
 ghost use Rattle.accept.specs.declared.Refusal.TheVariants.{NegativeArea};
 ghost use Rattle.accept.specs.Area.{shoelace_term, two, area_of};
-ghost use Rattle.accept.specs.Refusals.{Test, all_passed, ◌refusing◌when◌, given, number, negative_area, equal_neighbours, values_tested, shape_tested, outline_tested};
+ghost use Rattle.accept.specs.Refusals.{Test, all_passed, ◌refusing◌when◌, given, number, negative_area, equal_neighbours, size_tested, values_tested, shape_tested, outline_tested};
 ghost use Rattle.accept.specs.Verdicts.{edges_verdict, test_of};
 
 use crate::Refusal;
+use boundary::outline::Vertices;
 use boundary::{Bounds, Edge, Point, same_point};
 
 const LIMIT: f64 = 1048576.0;
@@ -120,18 +121,18 @@ pub fn last_tested(sum: f64, e: Edge) -> Result<f64, Refusal>
 }
 
 // Tests 7 and 8, in one pass over the edges. Each vertex is read once: the end of one edge is the start of the next.
-fn edges_tested(v: &[f64]) -> Result<f64, Refusal>
-    ensures { result ≡ edges_verdict (equal_neighbours v.now) (area_of (edges v.now)) }
+pub fn edges_tested<V: Vertices>(v: V) -> Result<f64, Refusal>
+    ensures { result ≡ edges_verdict (equal_neighbours (V.numbers v)) (area_of (edges (V.numbers v))) }
 {
-    let n = v.len() / 2;
+    let n = v.vertex_count();
     let mut sum = 0.0;
     if n == 0 {
         return area_tested(sum / 2.0);
     }
-    let first = boundary::vertex_at(v, 0);
+    let first = v.vertex(0);
     let mut a = first;
     for i in 0..n - 1 {
-        let b = boundary::vertex_at(v, i + 1);
+        let b = v.vertex(i + 1);
         if same_point(a, b) {
             return Err(Refusal::EqualNeighbours);
         }
@@ -154,20 +155,27 @@ pub fn values_tested(v: &[f64]) -> Result<f64, Refusal>
     edges_tested(v)
 }
 
-// Tests 1 and 3 to 8.
-pub fn shape_tested(v: &[f64]) -> Result<f64, Refusal>
-    ensures { result ≡ given (shape_tested v.now) (Ok (area_of (edges v.now))) Err }
+// Tests 3 and 4 of n vertices.
+pub fn size_tested(n: usize) -> Result<(), Refusal>
+    ensures { result ≡ size_tested n }
 {
-    let n = v.len() / 2;
-    if v.len() % 2 == 1 {
-        return Err(Refusal::OddCount);
-    }
     if n < 3 {
         return Err(Refusal::TooFew);
     }
     if 4096 < n {
         return Err(Refusal::TooMany);
     }
+    Ok(())
+}
+
+// Tests 1 and 3 to 8.
+pub fn shape_tested(v: &[f64]) -> Result<f64, Refusal>
+    ensures { result ≡ given (shape_tested v.now) (Ok (area_of (edges v.now))) Err }
+{
+    if v.len() % 2 == 1 {
+        return Err(Refusal::OddCount);
+    }
+    size_tested(v.len() / 2)?;
     values_tested(v)
 }
 

@@ -3,6 +3,7 @@
 
 pub mod hulls;
 pub mod line;
+pub mod outline;
 
 ghost use Rattle.std.specs.Prelude.{◌≡◌, ◌<◌, T};
 ghost use Rattle.std.specs.Float.{binary64};

@@ -1,14 +1,15 @@
 // `Polygon`: making, area, bounds, perimeter, containment, location and distance.
-ghost use Rattle.std.specs.Prelude.{◌≡◌, cond, ◌-◌, ◌<◌, ◌≤◌, length};
+ghost use Rattle.std.specs.Prelude.{◌≡◌, cond, ◌-◌, ◌*◌, ◌<◌, ◌≤◌, length};
 ghost use Rattle.lists.specs.Lists.{any, at_front};
 ghost use Rattle.std.specs.Float.Ieee.{unlike, lt};
 ghost use Rattle.boundary.specs.Outline.{count, vertex_at, vertices, edges};
 ghost use Rattle.geometry.specs.Polygon.{crosses_of, contains_of, between_ends, cross_of, on_edge, locate_of, bounds_of, place};
 ghost use Rattle.geometry.specs.Answers.{area_answer, perimeter_answer, bounds_answer, outline_query_tested, contains_answer, locate_answer, distance_answer};
-ghost use Rattle.geometry.specs.Making.{kept_count, turned, coordinates_of, make_outcome};
+ghost use Rattle.geometry.specs.Making.{closed, kept_count, turned, coordinates_of, make_outcome};
 
 use crate::Location;
 use accept::{Refusal, refusals};
+use boundary::outline::Vertices;
 use boundary::{Bounds, Distance, Edge, Point, greater_of, hulls, lesser_of};
 
 // Whether an odd number of edges count for p once the edge from vertex j to vertex i is looked at, where `odd` tells
@@ -157,22 +158,29 @@ pub fn distance(v: &[f64], p: Point) -> Result<Distance, Refusal>
     Ok(distance::nearest::distance(v, edge, p, inside))
 }
 
+// Whether the last vertex repeats the first.
+pub fn is_closed<V: Vertices>(v: V) -> bool
+    ensures { result ≡ closed (V.numbers v) }
+{
+    let n = v.vertex_count();
+    if n <= 1 {
+        return false;
+    }
+    boundary::same_point(v.vertex(0), v.vertex(n - 1))
+}
+
 // How many numbers are kept once a closing vertex is dropped.
 fn kept_count(v: &[f64]) -> usize
     ensures { (result ≡ kept_count v.now) × (result ≤ length v.now) }
 {
-    let n = v.len() / 2;
-    if n <= 1 {
-        return v.len();
-    }
-    if boundary::same_point(boundary::vertex_at(v, 0), boundary::vertex_at(v, n - 1)) {
+    if is_closed(v) {
         return v.len() - 2;
     }
     v.len()
 }
 
 // Which of n vertices is written at i: from the last to the first where `back` is set.
-pub fn source(back: bool, n: usize, i: usize) -> usize
+fn source(back: bool, n: usize, i: usize) -> usize
     requires { i < n }
     ensures { (result ≡ cond back (n - 1 - i) i) × (result < n) }
 {
@@ -180,13 +188,13 @@ pub fn source(back: bool, n: usize, i: usize) -> usize
 }
 
 // Writes the vertices of v to the front of out, turned where `back` is set.
-fn write(v: &[f64], back: bool, out: &mut [f64])
-    requires { length v.now ≤ length out.old }
-    ensures { out.new ≡ at_front (coordinates_of (turned back (vertices v.now))) out.old }
+pub fn write<V: Vertices>(v: V, back: bool, out: &mut [f64])
+    requires { 2 * count (V.numbers v) ≤ length out.old }
+    ensures { out.new ≡ at_front (coordinates_of (turned back (vertices (V.numbers v)))) out.old }
 {
-    let n = v.len() / 2;
+    let n = v.vertex_count();
     for i in 0..n {
-        let p = boundary::vertex_at(v, source(back, n, i));
+        let p = v.vertex(source(back, n, i));
         out[2 * i] = p.x;
         out[2 * i + 1] = p.y;
     }

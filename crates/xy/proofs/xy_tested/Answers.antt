@@ -14,10 +14,10 @@ returns-then-any_far c =
     let f = sym (far_from a.s.now a.from a.n) ∙ sym c.any_far.ensures ∙ c.if-any_far.true in
     sym (given_failed (tested_far _ f) _ Err)
 
-pub making_tested-requires : goal.making_tested-requires
-making_tested-requires c =
+pub invariant_of-making_tested : goal.invariant_of-making_tested
+invariant_of-making_tested c =
     let a = c.args in
-    record { within = c.requires; near = sym (far_from a.s.now a.from a.n) ∙ sym c.any_far.ensures ∙ c.if-any_far.false }
+    record { in_reach = record { within = c.requires; near = sym (far_from a.s.now a.from a.n) ∙ sym c.any_far.ensures ∙ c.if-any_far.false } }
 
 pub returns : goal.returns
 returns c =

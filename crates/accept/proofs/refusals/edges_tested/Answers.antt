@@ -26,43 +26,43 @@ summed s e = add binary64 s (shoelace_term e)
 
 pub returns-then-n-eq0 : goal.returns-then-n-eq0
 unfolding any total fold run edges area_of of_bits
-returns-then-n-eq0 c =
-    let e : count c.args.v.now ≡ 0 = omega arith in
+returns-then-n-eq0 g c =
+    let e : count (g.V.Vertices.numbers c.args.v) ≡ 0 = omega arith in
     rw (e, c.area_tested.ensures)
 
 pub loop-i-init : goal.loop-i-init
 unfolding any total edges of_bits
-loop-i-init c = (search rules, c.vertex_at-first.ensures, rw sub-zero, rw sub-zero)
+loop-i-init g c = (search rules, c.vertex-first.ensures, rw sub-zero, rw sub-zero)
 
 pub returns-then-same_point : goal.returns-then-same_point
 unfolding edges_verdict
-returns-then-same_point c =
+returns-then-same_point g c =
     let q = c in
     let inv = q.loop-i.invariant in
-    let e = next_edge q.args.v.now q.loop-i.i q.loop-i.a c.vertex_at-b.result inv.0 inv.1 (omega arith) c.vertex_at-b.ensures in
+    let e = next_edge (g.V.Vertices.numbers q.args.v) q.loop-i.i q.loop-i.a c.vertex-b.result inv.0 inv.1 (omega arith) c.vertex-b.ensures in
     let s = sym (ap joins e) ∙ sym c.same_point.ensures ∙ c.if-same_point.true in
     rw (← inv.2, fold_run_next found _ _ _ _ inv.0, s, fold_found joins)
 
 pub loop-i-preserved : goal.loop-i-preserved
-loop-i-preserved c =
+loop-i-preserved g c =
     let d = c in
     let q = d in
     let inv = q.loop-i.invariant in
-    let e = next_edge q.args.v.now q.loop-i.i q.loop-i.a d.vertex_at-b.result inv.0 inv.1 (omega arith) d.vertex_at-b.ensures in
+    let e = next_edge (g.V.Vertices.numbers q.args.v) q.loop-i.i q.loop-i.a d.vertex-b.result inv.0 inv.1 (omega arith) d.vertex-b.ensures in
     let s = sym (ap joins e) ∙ sym c.same_point.ensures ∙ c.if-same_point.false in (
       search rules,
-      d.vertex_at-b.ensures,
+      d.vertex-b.ensures,
       rw s at (sym (fold_run_next found _ _ _ _ inv.0) ∙ inv.2),
       rw (c.shoelace_term-sum.ensures ∙ ap shoelace_term e) (sym (fold_run_next summed _ _ _ _ inv.0) ∙ inv.3),
     )
 
 pub returns : goal.returns
 unfolding area_of
-returns c =
-    let l : count c.args.v.now ≤ c.loop-i.i + 1 = omega arith in
+returns g c =
+    let l : count (g.V.Vertices.numbers c.args.v) ≤ c.loop-i.i + 1 = omega arith in
     let q = c in
     let inv = q.loop-i.invariant in
-    let e = last_edge q.args.v.now q.loop-i.i q.loop-i.a q.vertex_at-first.result inv.0 inv.1 l q.vertex_at-first.ensures in
+    let e = last_edge (g.V.Vertices.numbers q.args.v) q.loop-i.i q.loop-i.a q.vertex-first.result inv.0 inv.1 l q.vertex-first.ensures in
     let same = sym inv.2 ∙ fold_run_next found _ _ _ _ inv.0 ∙ fold_run_end found _ _ _ _ l ∙ sym (ap joins e) in
     let sums = sym inv.3 ∙ fold_run_next summed _ _ _ _ inv.0 ∙ fold_run_end summed _ _ _ _ l ∙ sym (ap (summed q.loop-i.sum) e) in
     rw (same, sums, c.last_tested.ensures)

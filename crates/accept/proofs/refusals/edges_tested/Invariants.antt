@@ -20,8 +20,9 @@ summed s e = add binary64 s (shoelace_term e)
 
 -- edge i starts at a, and no edge before it joins equal vertices
 abbrev pub invariant-loop-i : goal.invariant-loop-i
-invariant-loop-i l =
-    (l.i < count l.v)
-    × (l.a ≡ vertex_at l.v l.i)
-    × (fold found false (run (edge_at l.v) l.i (count l.v - l.i)) ≡ any joins (edges l.v))
-    × (fold summed l.sum (run (edge_at l.v) l.i (count l.v - l.i)) ≡ total shoelace_term (edges l.v))
+invariant-loop-i g l =
+    let v = g.V.Vertices.numbers l.v in
+    (l.i < count v)
+    × (l.a ≡ vertex_at v l.i)
+    × (fold found false (run (edge_at v) l.i (count v - l.i)) ≡ any joins (edges v))
+    × (fold summed l.sum (run (edge_at v) l.i (count v - l.i)) ≡ total shoelace_term (edges v))

@@ -1,21 +1,34 @@
 -- `geometry::polygon::kept_count` meets its contract. Assumes nothing.
-use borrow.Author.Tests.{lt-ltb, le-ltb}
+use mathlib.Core.Path.{◌≡◌, refl, sym, ◌∙◌}
+use mathlib.Core.Bool.{Bool, true, false, ◌&&◌}
+use mathlib.Core.List.{List}
+use Prim.Native.Nat.{◌≤◌}
+use native.Mathlib.Omega.{arith}
+use borrow.Author.Tests.{ltb-true}
 use borrow.Author.Rules.{rules}
+use lib.Dec.{ltb}
+use lib.ListN.{length}
+use lib.Ieee.{Float}
+use Rattle.boundary.specs.Outline.{count}
 use Rattle.geometry.specs.Making.{closed, kept_count}
 use Rattle.geometry.proofs.polygon.kept_count.Goals as goal
 
-pub returns-then-n-le1 : goal.returns-then-n-le1
-unfolding kept_count closed
-returns-then-n-le1 c = (rw (le-ltb _ _ c.if-n-le1.true), search rules)
+first_of : (x y : Bool) → (x && y) ≡ true → x ≡ true
+first_of true y e = refl
+first_of false y e = e
 
-pub returns-then-same_point : goal.returns-then-same_point
-unfolding kept_count closed
-returns-then-same_point c =
-    let e = rw (c.vertex_at-2.ensures, c.vertex_at.ensures) at c.same_point.ensures in
-    (rw (lt-ltb _ _ c.if-n-le1.false, ← e, c.if-same_point.true), search rules)
+-- a closing vertex is not the only one
+two_numbers : (v : List Float) → closed v ≡ true → 2 ≤ length v
+unfolding closed
+two_numbers v e = let l = ltb-true 1 (count v) (first_of (ltb 1 (count v)) _ e) in omega arith
+
+pub overflow_sub-result : goal.overflow_sub-result
+overflow_sub-result c = two_numbers _ (sym c.is_closed.ensures ∙ c.if-is_closed.true)
+
+pub returns-then-is_closed : goal.returns-then-is_closed
+unfolding kept_count
+returns-then-is_closed c = (rw (sym c.is_closed.ensures ∙ c.if-is_closed.true), search rules)
 
 pub returns : goal.returns
-unfolding kept_count closed
-returns c =
-    let e = rw (c.vertex_at-2.ensures, c.vertex_at.ensures) at c.same_point.ensures in
-    (rw (lt-ltb _ _ c.if-n-le1.false, ← e, c.if-same_point.false), search rules)
+unfolding kept_count
+returns c = (rw (sym c.is_closed.ensures ∙ c.if-is_closed.false), search rules)

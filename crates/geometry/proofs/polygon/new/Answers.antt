@@ -25,7 +25,8 @@ returns-then-out-v c =
 pub write-requires : goal.write-requires
 write-requires c =
     let k = c.kept_count-m.ensures.1 in
-    rw (length-take-le _ _ k) (le_trans k c.if-out-v.false)
+    let room = le_trans k c.if-out-v.false in
+    rw (length-take-le _ _ k) (omega arith)
 
 pub overflow_cast-result : goal.overflow_cast-result
 overflow_cast-result c =

@@ -10,17 +10,17 @@ use Rattle.geometry.proofs.polygon.write.Goals as goal
 
 pub loop-i-init : goal.loop-i-init
 unfolding coordinates_of run
-loop-i-init c = refl
+loop-i-init g c = refl
 
 pub bounds-out-i-in-loop-i : goal.bounds-out-i-in-loop-i
-bounds-out-i-in-loop-i c = simp length-set (search rules)
+bounds-out-i-in-loop-i g c = simp length-set (search rules)
 
 pub loop-i-preserved : goal.loop-i-preserved
-loop-i-preserved c =
+loop-i-preserved g c =
     let a = c.args in
-    rw (c.vertex_at-p.ensures, c.source.ensures.0) (write_more (point_at a.v.now a.back) _ _ _ c.loop-i.invariant (search rules))
+    rw (c.vertex-p.ensures, c.source.ensures.0, c.vertex_count-n.ensures) (write_more (point_at (g.V.Vertices.numbers a.v) a.back) _ _ _ c.loop-i.invariant (search rules))
 
 pub returns : goal.returns
-returns c =
+returns g c =
     let n = le_antisymm (search rules) c.loop-i-test.false in
-    rw (write_all, ← n) c.loop-i.invariant
+    rw (write_all, ← c.vertex_count-n.ensures, ← n) c.loop-i.invariant

@@ -9,4 +9,4 @@ use Rattle.geometry.proofs.WriteLaws.{point_at}
 use Rattle.geometry.proofs.polygon.write.Given as goal
 
 abbrev pub invariant-loop-i : goal.invariant-loop-i
-invariant-loop-i l = (l.out ≡ coordinates_of (run (point_at l.v l.back) 0 l.i) ++ drop (2 * l.i) l.initial.out)
+invariant-loop-i g l = l.out ≡ coordinates_of (run (point_at (g.V.Vertices.numbers l.v) l.back) 0 l.i) ++ drop (2 * l.i) l.initial.out
