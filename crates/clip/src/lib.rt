@@ -48,7 +48,8 @@ pub struct State {
     pub at: usize,
 }
 
-// Where a list stands: in the second half or the first, and how many lines it has.
+// Where a list stands: in the second half or the first, and how many lines it has. A list that is too long for a half
+// has more than a half holds, and no flag beside it: refusal 14 asks for that number (`Stage`, `long_of`).
 #[derive(Clone, Copy)]
 pub struct Stored {
     pub second: bool,
