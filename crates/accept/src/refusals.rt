@@ -75,24 +75,6 @@ pub fn box_fits(b: Bounds) -> bool
     in_field(b.min.x) & (in_field(b.min.y) & upper)
 }
 
-// Whether x passes test 5, where that is all that is asked; else test 6.
-fn number_fits(only: bool, x: f64) -> bool
-    ensures { result ≡ cond only (finite x) (is_in_field x) }
-{
-    if only { is_finite(x) } else { in_field(x) }
-}
-
-// Whether a number does not pass it.
-fn any_unfit(v: &[f64], only: bool) -> bool
-    ensures { result ≡ any (λ x. not (cond only (finite x) (is_in_field x))) v.now }
-{
-    let mut found = false;
-    for x in v {
-        found = found | !number_fits(only, *x);
-    }
-    found
-}
-
 // An edge's term of the shoelace sum.
 pub fn shoelace_term(e: Edge) -> f64
     ensures { result ≡ shoelace_term e }
@@ -146,8 +128,8 @@ pub fn edges_tested<V: Vertices>(v: V) -> Result<f64, Refusal>
 pub fn values_tested(v: &[f64]) -> Result<f64, Refusal>
     ensures { result ≡ given (values_tested v.now) (Ok (area_of (edges v.now))) Err }
 {
-    if any_unfit(v, false) {
-        if any_unfit(v, true) {
+    if lists::any(v, |x| !in_field(x)) {
+        if lists::any(v, |x| !is_finite(x)) {
             return Err(Refusal::NotFinite);
         }
         return Err(Refusal::OutsideField);

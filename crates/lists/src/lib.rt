@@ -1,9 +1,9 @@
 // Lent lists: read and written with the bounds test inside, and cleared.
 #![tactic(auto)]
 
-ghost use Rattle.std.specs.Prelude.{◌≡◌, ◌≤◌, length, get_or, set};
+ghost use Rattle.std.specs.Prelude.{◌≡◌, ◌≤◌, Bool, length, get_or, set};
 ghost use Rattle.std.specs.Float.{nan};
-ghost use Rattle.lists.specs.Lists.{at_front, zeros};
+ghost use Rattle.lists.specs.Lists.{at_front, zeros, any};
 
 // The member at i, `none` past the end.
 pub fn at<T: Copy>(s: &[T], i: usize, none: T) -> T
@@ -36,4 +36,16 @@ pub fn clear<T: Copy>(s: &mut [T], n: usize, x: T)
     for place in s[..n].iter_mut() {
         *place = x;
     }
+}
+
+// Whether some member passes a test. All members are looked at, so that no branch is taken.
+pub fn any<T: Copy, F: Fn(T) -> bool>(s: &[T], passes: F) -> bool
+    requires { F.IsAlwaysCallable passes }
+    ensures { (p : T → Bool) → ((x : T) (b : Bool) → F.post passes x b → b ≡ p x) → result ≡ any p s.now }
+{
+    let mut found = false;
+    for x in s {
+        found = found | passes(*x);
+    }
+    found
 }

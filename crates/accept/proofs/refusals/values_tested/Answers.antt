@@ -1,4 +1,5 @@
 -- `accept::refusals::values_tested` meets its contract: where no number is outside the field, every one is finite. Assumes nothing.
+use borrow.Author.Rules.{rules}
 use mathlib.Core.Path.{◌≡◌, refl, sym, ◌∙◌}
 use mathlib.Core.Bool.{true, false, not, true≢false}
 use lib.Ieee.{Float, nan, inf, fin, le, neg}
@@ -16,17 +17,22 @@ field-is-finite (inf true) e = absurd (true≢false e)
 field-is-finite (inf false) e = absurd (true≢false e)
 field-is-finite (fin s m e) h = refl
 
-pub returns-then-any_unfit-2 : goal.returns-then-any_unfit-2
+pub returns-then-any-2 : goal.returns-then-any-2
 unfolding values_tested given
-returns-then-any_unfit-2 c = rw (← c.any_unfit-then-any_unfit.ensures, c.if-any_unfit-2.true)
+returns-then-any-2 c =
+    let found = c.any-then-any.ensures (λ x. not (finite x)) (λ x b e. search rules) in
+    rw (← found, c.if-any-2.true)
 
-pub returns-then-any_unfit : goal.returns-then-any_unfit
+pub returns-then-any : goal.returns-then-any
 unfolding values_tested given
-returns-then-any_unfit c =
-    rw (← c.any_unfit-then-any_unfit.ensures, c.if-any_unfit-2.false, ← c.any_unfit.ensures, c.if-any_unfit.true)
+returns-then-any c =
+    let unfit = c.any-then-any.ensures (λ x. not (finite x)) (λ x b e. search rules) in
+    let out = c.any.ensures (λ x. not (is_in_field x)) (λ x b e. search rules) in
+    rw (← unfit, c.if-any-2.false, ← out, c.if-any.true)
 
 pub returns : goal.returns
 unfolding values_tested edges_verdict given
 returns c =
-    let e = sym c.any_unfit.ensures ∙ c.if-any_unfit.false in
+    let out = c.any.ensures (λ x. not (is_in_field x)) (λ x b e. search rules) in
+    let e = sym out ∙ c.if-any.false in
     rw (any_none _ _ field-is-finite c.args.v.now e, e, c.edges_tested.ensures)
