@@ -28,7 +28,8 @@ fn outside_end(v: &[f64], i: usize, s: HalfPlane) -> usize
     n - 1
 }
 
-// The chord from vertex i on: over vertices outside a bound, or else the edge.
+// The chord from vertex i on: over vertices outside a bound, or else the edge. The two bounds stand one by one with
+// the fact of both (`StripOf`): a type that keeps it would be made and read once a call, so it is no plainer.
 fn chord(v: &[f64], i: usize, low: HalfPlane, high: HalfPlane) -> Chord
     requires { (i < count v.now) × StripOf low high v.now }
     ensures { Drawn low high v.now i result.to result.beyond }

@@ -111,7 +111,8 @@ fn record_read(
     Ok(done)
 }
 
-// The size of the set that a stream holds, or why it is turned away; and the signs of its outlines.
+// The size of the set that a stream holds, or why it is turned away; and the signs of its outlines. The loop goes on by
+// records, and not by one.
 fn measure(s: &[u8], signs: &mut [bool]) -> Result<Size, Refusal>
     requires { length signs.old ≡ 1024 }
     ensures { (result ≡ measured (reading s.now)) × SignsOf (reading s.now) signs.new }
@@ -161,7 +162,8 @@ fn write_outline(
     }
 }
 
-// Writes the set of an accepted stream, so many outlines: no test is made again.
+// Writes the set of an accepted stream, so many outlines: no test is made again. The loop goes on by records, and not by
+// one.
 fn write(s: &[u8], outlines: u32, signs: &[bool], vertices: &mut [f64], counts: &mut [u32])
     requires { RoomForSet s.now outlines signs.now (set_lent vertices.old counts.old) }
     ensures { Wrote s.now (set_lent vertices.old counts.old) (set_lent vertices.new counts.new) }

@@ -66,7 +66,7 @@ fn is_on(p: Point, e: Edge) -> bool
     (cross(e, p) == 0.0) & (is_between(e.a.x, e.b.x, p.x) & is_between(e.a.y, e.b.y, p.y))
 }
 
-// Whether p is on an edge.
+// Whether p is on an edge. By place: a closure for `lists::any` would owe that the place is one of the list.
 fn on_boundary(v: &[f64], p: Point) -> bool
     ensures { result ≡ any (on_edge p) (edges v.now) }
 {

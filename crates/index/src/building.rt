@@ -1,4 +1,5 @@
-// The index of a whole list of boxes, with the space that the build needs.
+// The index of a whole list of boxes, with the space that the build needs. The lists of an index buffer that are
+// written to stand one by one (see `nodes::build`).
 ghost use Rattle.std.specs.Prelude.{◌≡◌, ◌≤◌, length};
 ghost use Rattle.lists.specs.Lists.{run};
 ghost use Rattle.boxes.specs.BoxLists.{box_count, wide_at};

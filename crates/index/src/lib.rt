@@ -1,4 +1,5 @@
-// The box tree (index.rs): a tree over boxes, built in lent buffers.
+// The box tree (index.rs): a tree over boxes, built in lent buffers. The lists of an index buffer that are written to
+// stand one by one (see `nodes::build`).
 #![tactic(auto)]
 
 pub mod building;

@@ -11,7 +11,8 @@ ghost use Rattle.index.specs.Buffer.{short_sizes};
 use accept::Refusal;
 use accept::refusals::{box_fits, refuse_when};
 
-// Whether a box of the list is not one of the field, or has a minimum above its maximum.
+// Whether a box of the list is not one of the field, or has a minimum above its maximum. By place: a closure for
+// `lists::any` would owe that the place is one of the list.
 fn any_unfit(boxes: &[f64]) -> bool
     requires { box_count boxes.now ≤ 1024 }
     ensures { result ≡ any (λ b. not (box_fits b)) (boxes_of boxes.now) }

@@ -1,4 +1,5 @@
-// `meeting` (index.rs): the items of the leaves that share a point with a cell.
+// `meeting` (index.rs): the items of the leaves that share a point with a cell. The lists of an
+// index buffer that are written to stand one by one (see `nodes::build`).
 #![tactic(auto)]
 
 ghost use Rattle.std.specs.Prelude.{◌≡◌, not, ◌∷◌, [], ◌+◌, ◌≤◌, ◌<◌, ◌^◌, ltb, length};

@@ -79,7 +79,7 @@ fn is_far(z: i64) -> bool
     (1048576 < z) | (z < -1048576)
 }
 
-// Whether one of n numbers from a place on is.
+// Whether one of n numbers from a place on is. By place: a closure for `lists::any` would owe that it is one.
 pub fn any_far(s: &[u8], from: usize, n: usize) -> bool
     requires { from + 4 * n ≤ length s.now }
     ensures { result ≡ any_far (steps_in (take (4 * n) (drop from s.now))) }

@@ -1,5 +1,6 @@
 // Every operation as a host calls it. The work stands in the crates below. The crate viskunor_c exports these
-// functions to C; include/viskunor.h declares them and says what they do in plain words.
+// functions to C; include/viskunor.h declares them and says what they do in plain words. Their parameters stand one by
+// one, and yes and no are 1 and 0, as C has them.
 #![tactic(auto)]
 
 pub mod ellipses;
