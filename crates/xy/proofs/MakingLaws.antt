@@ -18,7 +18,7 @@ use Rattle.boundary.proofs.OutlineLaws.{length_vertices}
 use Rattle.accept.specs.declared.Refusal.{Refusal}
 use Rattle.accept.specs.declared.Refusal.TheVariants.{BeyondReach}
 use Rattle.accept.specs.Area.{area_of}
-use Rattle.accept.specs.Refusals.{Test, all_passed, ◌refusing◌when◌, given, not_finite, outside_field, equal_neighbours, negative_area, values_tested, shape_tested}
+use Rattle.accept.specs.Refusals.{count_tested, Test, all_passed, ◌refusing◌when◌, given, not_finite, outside_field, equal_neighbours, negative_area, values_tested, shape_tested}
 use Rattle.accept.specs.Verdicts.{edges_verdict}
 use Rattle.accept.proofs.TestLaws.{refusing_passed, both_passed}
 use Rattle.geometry.specs.Making.{closed, kept, turned, made_of}
@@ -42,6 +42,12 @@ grid_values v g =
     let finite : not_finite v ≡ false = any_each (λ x z k. ap not (grid_finite k)) g.on ∙ any_never g.steps in
     let inside : outside_field v ≡ false = any_each (λ x z k. ap not (grid_in_field k)) g.on ∙ any_never g.steps in
     rw (finite, inside)
+
+-- so that 7 and 8 decide where 1, 3 and 4 are passed
+pub grid_tested : (v : List Float) → eqb (length v % 2) 1 ≡ false → ltb (count v) 3 ≡ false → ltb 4096 (count v) ≡ false → OutlineOn v
+    → edges_verdict (equal_neighbours v) (area_of (edges v)) ≡ given (shape_tested v) (Ok (area_of (edges v))) Err
+unfolding shape_tested count_tested given
+grid_tested v e l h g = rw (e, l, h) (grid_values v g)
 
 -- those that follow the record: where a step is beyond the reach, and where none is
 module _ (zs : List ℤ) where
