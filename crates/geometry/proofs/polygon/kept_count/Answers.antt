@@ -23,7 +23,7 @@ unfolding closed
 two_numbers v e = let l = ltb-true 1 (count v) (first_of (ltb 1 (count v)) _ e) in omega arith
 
 pub overflow_sub-result : goal.overflow_sub-result
-overflow_sub-result c = two_numbers _ (sym c.is_closed.ensures ∙ c.if-is_closed.true)
+overflow_sub-result c = let l = two_numbers _ (sym c.is_closed.ensures ∙ c.if-is_closed.true) in omega arith
 
 pub returns-then-is_closed : goal.returns-then-is_closed
 unfolding kept_count

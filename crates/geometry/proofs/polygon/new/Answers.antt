@@ -1,6 +1,5 @@
 -- `geometry::polygon::new` meets its contract. Assumes nothing.
 use mathlib.Core.Path.{refl, sym, ◌∙◌}
-use native.Mathlib.Nat.{le_trans}
 use native.Mathlib.Omega.{arith}
 use borrow.Author.Tests.{lt-ltb, le-ltb}
 use lib.Ieee.{of_bits}
@@ -25,8 +24,9 @@ returns-then-out-v c =
 pub write-requires : goal.write-requires
 write-requires c =
     let k = c.kept_count-m.ensures.1 in
-    let room = le_trans k c.if-out-v.false in
-    rw (length-take-le _ _ k) (omega arith)
+    let e = length-take-le _ _ k in
+    let room = c.if-out-v.false in
+    omega arith
 
 pub overflow_cast-result : goal.overflow_cast-result
 overflow_cast-result c =

@@ -1,6 +1,5 @@
 -- `xy::placed::Placed::kept` meets its contract. Assumes nothing.
 use mathlib.Core.Path.{sym, ◌∙◌}
-use Prim.Native.Nat.{◌-◌}
 use borrow.Author.Rules.{rules}
 use native.Mathlib.Omega.{arith}
 use Rattle.xy.proofs.NumberLaws.{near_fewer}
@@ -16,7 +15,7 @@ overflow_sub-result c =
 pub invariant_of-result : goal.invariant_of-result
 invariant_of-result c =
     let p = c.args.self in
-    record { in_reach = near_fewer p.s.now p.from p.n p.in_reach (p.n - 1) (omega arith) }
+    record { in_reach = near_fewer p.s.now p.from p.n p.in_reach _ (omega arith) }
 
 pub returns-then-is_closed : goal.returns-then-is_closed
 returns-then-is_closed c =
