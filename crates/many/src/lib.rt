@@ -1,4 +1,5 @@
 // The nearest outline for each of many points: the set is tested once, its index built once.
+// The lists of an index buffer that are written to stand one by one (see nodes::build).
 #![tactic(auto)]
 
 ghost use Rattle.std.specs.Prelude.{◌≡◌, ◌<◌, length};
@@ -18,7 +19,7 @@ use nodes::IndexView;
 use search::heap::Waiting;
 use search::{SetView, search_in};
 use set::frame;
-use set::outlines::put_starts;
+use set::outlines::{Set, put_starts};
 use set::refusals::set_tested;
 
 // Test 15.
@@ -42,8 +43,7 @@ fn any_bad_point(ps: &[f64]) -> bool
 
 // The tests, 13 the last, of lists for the answers of so many places.
 fn tested(
-    v: &[f64],
-    counts: &[u32],
+    set: &Set,
     ps: &[f64],
     corners: &[f64],
     links: &[u32],
@@ -51,10 +51,10 @@ fn tested(
     near: &[u32],
     distances: &[f64],
 ) -> Result<(), Refusal>
-    ensures { result ≡ many_tested v.now counts.now ps.now
+    ensures { result ≡ many_tested set.now.vertices.now set.now.counts.now ps.now
         (lent_as corners.now links.now items.now near.now distances.now) }
 {
-    set_tested(v, counts)?;
+    set_tested(set)?;
     refuse_when(bad_point_count(ps), Refusal::BadPointCount)?;
     refuse_when(any_bad_point(ps), Refusal::BadPoint)?;
     let short = short_index(corners.len(), links.len(), items.len());
@@ -66,23 +66,23 @@ fn tested(
 // Puts the number and the distance of each point's nearest outline at the point's place of the two lists, by
 // searches of an index of the set, with a heap that is lent to each.
 fn put_answers_in(
-    set: &SetView,
+    view: &SetView,
     index: &IndexView,
     ps: &[f64],
     waiting: &mut Waiting,
     near: &mut [u32],
     distances: &mut [f64],
 )
-    requires { AllAsked set.now.vertices.now set.now.counts.now set.now.starts.now set.now.boxes.now ps.now
-        × Searched (outlines_of set.now.vertices.now set.now.counts.now) (buffer index.now.corners.now index.now.links.now index.now.items.now)
+    requires { AllAsked view.now.set.vertices.now view.now.set.counts.now view.now.starts.now view.now.boxes.now ps.now
+        × Searched (outlines_of view.now.set.vertices.now view.now.set.counts.now) (buffer index.now.corners.now index.now.links.now index.now.items.now)
         × RoomFor ps.now (answer_lists near.old distances.old) }
     ensures { answer_lists near.new distances.new
-        ≡ with_answers (answers_of (outlines_of set.now.vertices.now set.now.counts.now) ps.now) (answer_lists near.old distances.old) }
+        ≡ with_answers (answers_of (outlines_of view.now.set.vertices.now view.now.set.counts.now) ps.now) (answer_lists near.old distances.old) }
 {
     let n = ps.len() / 2;
     for i in 0..n {
         let p = vertex_at(ps, i);
-        let best = search_in(set, index, p, waiting);
+        let best = search_in(view, index, p, waiting);
         lists::put(near, i, best.outline);
         lists::put(distances, i, best.distance);
     }
@@ -90,27 +90,26 @@ fn put_answers_in(
 
 // The same, with its own heap.
 fn put_answers(
-    set: &SetView,
+    view: &SetView,
     index: &IndexView,
     ps: &[f64],
     near: &mut [u32],
     distances: &mut [f64],
 )
-    requires { AllAsked set.now.vertices.now set.now.counts.now set.now.starts.now set.now.boxes.now ps.now
-        × Searched (outlines_of set.now.vertices.now set.now.counts.now) (buffer index.now.corners.now index.now.links.now index.now.items.now)
+    requires { AllAsked view.now.set.vertices.now view.now.set.counts.now view.now.starts.now view.now.boxes.now ps.now
+        × Searched (outlines_of view.now.set.vertices.now view.now.set.counts.now) (buffer index.now.corners.now index.now.links.now index.now.items.now)
         × RoomFor ps.now (answer_lists near.old distances.old) }
     ensures { answer_lists near.new distances.new
-        ≡ with_answers (answers_of (outlines_of set.now.vertices.now set.now.counts.now) ps.now) (answer_lists near.old distances.old) }
+        ≡ with_answers (answers_of (outlines_of view.now.set.vertices.now view.now.set.counts.now) ps.now) (answer_lists near.old distances.old) }
 {
     let mut waiting = Waiting::new();
-    put_answers_in(set, index, ps, &mut waiting, near, distances);
+    put_answers_in(view, index, ps, &mut waiting, near, distances);
 }
 
 // The answers over a set that has an outline and passed the tests: its index is built in the lent buffers, and
 // cleared. The lists of starts and boxes are lent to work in.
 fn answer_in(
-    v: &[f64],
-    counts: &[u32],
+    set: &Set,
     ps: &[f64],
     starts: &mut [u32],
     boxes: &mut [f64],
@@ -120,17 +119,16 @@ fn answer_in(
     near: &mut [u32],
     distances: &mut [f64],
 )
-    requires { ManyReady v.now counts.now ps.now (lent_as corners.old links.old items.old near.old distances.old) × SetSpace counts.now starts.old boxes.old }
+    requires { ManyReady set.now.vertices.now set.now.counts.now ps.now (lent_as corners.old links.old items.old near.old distances.old) × SetSpace set.now.counts.now starts.old boxes.old }
     ensures { lent_as corners.new links.new items.new near.new distances.new
-        ≡ many_left v.now counts.now ps.now
+        ≡ many_left set.now.vertices.now set.now.counts.now ps.now
         (lent_as corners.old links.old items.old near.old distances.old) }
 {
-    boundary::all_held(v);
-    put_starts(counts, starts);
-    frame::index_in(v, counts, boxes, corners, links, items);
-    let set = SetView {
-        vertices: v,
-        counts,
+    boundary::all_held(set.vertices);
+    put_starts(set.counts, starts);
+    frame::index_in(set, boxes, corners, links, items);
+    let view = SetView {
+        set: *set,
         starts,
         boxes,
     };
@@ -139,14 +137,13 @@ fn answer_in(
         links,
         items,
     };
-    put_answers(&set, &index, ps, near, distances);
+    put_answers(&view, &index, ps, near, distances);
     building::clear(corners, links, items);
 }
 
 // The same, with its own space for the starts and the boxes.
 fn answer(
-    v: &[f64],
-    counts: &[u32],
+    set: &Set,
     ps: &[f64],
     corners: &mut [f64],
     links: &mut [u32],
@@ -154,16 +151,15 @@ fn answer(
     near: &mut [u32],
     distances: &mut [f64],
 )
-    requires { ManyReady v.now counts.now ps.now (lent_as corners.old links.old items.old near.old distances.old) × (0 < length counts.now) }
+    requires { ManyReady set.now.vertices.now set.now.counts.now ps.now (lent_as corners.old links.old items.old near.old distances.old) × (0 < length set.now.counts.now) }
     ensures { lent_as corners.new links.new items.new near.new distances.new
-        ≡ many_left v.now counts.now ps.now
+        ≡ many_left set.now.vertices.now set.now.counts.now ps.now
         (lent_as corners.old links.old items.old near.old distances.old) }
 {
     let mut starts = [0; 1024];
     let mut boxes = [0.0; 4096];
     answer_in(
-        v,
-        counts,
+        set,
         ps,
         &mut starts,
         &mut boxes,
@@ -177,8 +173,7 @@ fn answer(
 
 // The answers over a set that passed the tests: 1 where it has an outline, and 0, 'none', where it is empty.
 fn answered(
-    v: &[f64],
-    counts: &[u32],
+    set: &Set,
     ps: &[f64],
     corners: &mut [f64],
     links: &mut [u32],
@@ -186,24 +181,23 @@ fn answered(
     near: &mut [u32],
     distances: &mut [f64],
 ) -> u32
-    requires { ManyReady v.now counts.now ps.now (lent_as corners.old links.old items.old near.old distances.old) }
+    requires { ManyReady set.now.vertices.now set.now.counts.now ps.now (lent_as corners.old links.old items.old near.old distances.old) }
     ensures { record { answer = Ok result; lent = lent_as corners.new links.new items.new near.new distances.new }
-        ≡ many_worked v.now counts.now ps.now
+        ≡ many_worked set.now.vertices.now set.now.counts.now ps.now
         (lent_as corners.old links.old items.old near.old distances.old) }
 {
-    if counts.len() == 0 {
+    if set.counts.len() == 0 {
         building::clear(corners, links, items);
         return 0;
     }
-    answer(v, counts, ps, corners, links, items, near, distances);
+    answer(set, ps, corners, links, items, near, distances);
     1
 }
 
 // For each point the outline of the set with the least magnitude of its distance, the lowest number among
 // equals.
 pub fn nearest_many(
-    v: &[f64],
-    counts: &[u32],
+    set: &Set,
     ps: &[f64],
     corners: &mut [f64],
     links: &mut [u32],
@@ -212,9 +206,9 @@ pub fn nearest_many(
     distances: &mut [f64],
 ) -> Result<u32, Refusal>
     ensures { record { answer = result; lent = lent_as corners.new links.new items.new near.new distances.new }
-        ≡ many_outcome v.now counts.now ps.now
+        ≡ many_outcome set.now.vertices.now set.now.counts.now ps.now
         (lent_as corners.old links.old items.old near.old distances.old) }
 {
-    tested(v, counts, ps, corners, links, items, near, distances)?;
-    Ok(answered(v, counts, ps, corners, links, items, near, distances))
+    tested(set, ps, corners, links, items, near, distances)?;
+    Ok(answered(set, ps, corners, links, items, near, distances))
 }

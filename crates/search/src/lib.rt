@@ -21,7 +21,7 @@ use boundary::{Edge, Point, out_along};
 use distance::nearest::{gap_squares, nearest_edge, squares_to};
 use nodes::IndexView;
 use number::root::hypot;
-use set::outlines::outline_at;
+use set::outlines::Set;
 
 // A node that waits, with its gap: its squared distance from the point.
 #[derive(Clone, Copy)]
@@ -33,8 +33,7 @@ pub struct Entry {
 // A set that passed the tests, how many vertices stand before each outline, and the outlines' boxes.
 #[derive(Clone, Copy)]
 pub struct SetView<'a> {
-    pub vertices: &'a [f64],
-    pub counts: &'a [u32],
+    pub set: Set<'a>,
     pub starts: &'a [u32],
     pub boxes: &'a [f64],
 }
@@ -105,15 +104,15 @@ fn box_squares(boxes: &[f64], k: u32, p: Point) -> f64
 
 // The better of what is kept and outline k: its edges are looked at where its box is not clearly farther, and
 // its distance is worked out where its nearest point is not.
-fn look_at(set: &SetView, k: u32, p: Point, kept: Kept) -> Kept
-    requires { Asked set.now.vertices.now set.now.counts.now set.now.starts.now p × Boxed (outlines_of set.now.vertices.now set.now.counts.now) set.now.boxes.now
-        × (k < length (outlines_of set.now.vertices.now set.now.counts.now)) × Clear p kept }
-    ensures { (result.best ≡ improved kept.best k (magnitude_at (outlines_of set.now.vertices.now set.now.counts.now) p k)) × Clear p result }
+fn look_at(view: &SetView, k: u32, p: Point, kept: Kept) -> Kept
+    requires { Asked view.now.set.vertices.now view.now.set.counts.now view.now.starts.now p × Boxed (outlines_of view.now.set.vertices.now view.now.set.counts.now) view.now.boxes.now
+        × (k < length (outlines_of view.now.set.vertices.now view.now.set.counts.now)) × Clear p kept }
+    ensures { (result.best ≡ improved kept.best k (magnitude_at (outlines_of view.now.set.vertices.now view.now.set.counts.now) p k)) × Clear p result }
 {
-    if kept.far < box_squares(set.boxes, k, p) {
+    if kept.far < box_squares(view.boxes, k, p) {
         return kept;
     }
-    let outline = outline_at(set.vertices, set.counts, set.starts, k as usize);
+    let outline = view.set.outline_at(view.starts, k as usize);
     let f = nearest_edge(outline, p);
     let q = f.q;
     if kept.far < squares_to(q, p) {
@@ -123,15 +122,15 @@ fn look_at(set: &SetView, k: u32, p: Point, kept: Kept) -> Kept
 }
 
 // The best of what is kept and a leaf's outlines.
-fn look(set: &SetView, index: &IndexView, first: u32, count: u32, p: Point, start: Kept) -> Kept
-    requires { Asked set.now.vertices.now set.now.counts.now set.now.starts.now p × Boxed (outlines_of set.now.vertices.now set.now.counts.now) set.now.boxes.now
-        × ((i : ℕ) → In i (run (item_at index.now.items.now) first count) → i < length (outlines_of set.now.vertices.now set.now.counts.now)) × Clear p start }
-    ensures { (result.best ≡ best_of (magnitude_at (outlines_of set.now.vertices.now set.now.counts.now) p) start.best (run (item_at index.now.items.now) first count)) × Clear p result }
+fn look(view: &SetView, index: &IndexView, first: u32, count: u32, p: Point, start: Kept) -> Kept
+    requires { Asked view.now.set.vertices.now view.now.set.counts.now view.now.starts.now p × Boxed (outlines_of view.now.set.vertices.now view.now.set.counts.now) view.now.boxes.now
+        × ((i : ℕ) → In i (run (item_at index.now.items.now) first count) → i < length (outlines_of view.now.set.vertices.now view.now.set.counts.now)) × Clear p start }
+    ensures { (result.best ≡ best_of (magnitude_at (outlines_of view.now.set.vertices.now view.now.set.counts.now) p) start.best (run (item_at index.now.items.now) first count)) × Clear p result }
 {
     let mut kept = start;
     for i in 0..count {
         let k = index.item_at(first as usize + i as usize);
-        kept = look_at(set, k, p, kept);
+        kept = look_at(view, k, p, kept);
     }
     kept
 }
@@ -148,14 +147,14 @@ fn wait_both(index: &IndexView, p: Point, first: u32, waiting: &mut Waiting)
 
 // The nearest of the set's outlines, by a search of an index of it: the nodes that wait are in a heap, lent for
 // the search, and the search ends where the least gap is clearly above the best distance.
-pub fn search_in(set: &SetView, index: &IndexView, p: Point, waiting: &mut Waiting) -> Best
-    requires { Asked set.now.vertices.now set.now.counts.now set.now.starts.now p × Boxed (outlines_of set.now.vertices.now set.now.counts.now) set.now.boxes.now
-        × Searched (outlines_of set.now.vertices.now set.now.counts.now) (buffer index.now.corners.now index.now.links.now index.now.items.now) × (0 < length set.now.counts.now) }
-    ensures { result ≡ least_in (outlines_of set.now.vertices.now set.now.counts.now) p }
+pub fn search_in(view: &SetView, index: &IndexView, p: Point, waiting: &mut Waiting) -> Best
+    requires { Asked view.now.set.vertices.now view.now.set.counts.now view.now.starts.now p × Boxed (outlines_of view.now.set.vertices.now view.now.set.counts.now) view.now.boxes.now
+        × Searched (outlines_of view.now.set.vertices.now view.now.set.counts.now) (buffer index.now.corners.now index.now.links.now index.now.items.now) × (0 < length view.now.set.counts.now) }
+    ensures { result ≡ least_in (outlines_of view.now.set.vertices.now view.now.set.counts.now) p }
 {
     waiting.clear();
     waiting.push(entry_for(index, 0, p));
-    let mut kept = none_kept(set.counts.len() as u32);
+    let mut kept = none_kept(view.set.counts.len() as u32);
     while let Some(e) = waiting.pop() {
         if kept.far < e.gap {
             return kept.best;
@@ -163,7 +162,7 @@ pub fn search_in(set: &SetView, index: &IndexView, p: Point, waiting: &mut Waiti
         let first = index.first_at(e.node as usize);
         let count = index.count_at(e.node as usize);
         if count > 0 {
-            kept = look(set, index, first, count, p, kept);
+            kept = look(view, index, first, count, p, kept);
         } else {
             wait_both(index, p, first, waiting);
         }
@@ -172,10 +171,10 @@ pub fn search_in(set: &SetView, index: &IndexView, p: Point, waiting: &mut Waiti
 }
 
 // The same, with its own space for the heap.
-pub fn search(set: &SetView, index: &IndexView, p: Point) -> Best
-    requires { Asked set.now.vertices.now set.now.counts.now set.now.starts.now p × Boxed (outlines_of set.now.vertices.now set.now.counts.now) set.now.boxes.now
-        × Searched (outlines_of set.now.vertices.now set.now.counts.now) (buffer index.now.corners.now index.now.links.now index.now.items.now) × (0 < length set.now.counts.now) }
-    ensures { result ≡ least_in (outlines_of set.now.vertices.now set.now.counts.now) p }
+pub fn search(view: &SetView, index: &IndexView, p: Point) -> Best
+    requires { Asked view.now.set.vertices.now view.now.set.counts.now view.now.starts.now p × Boxed (outlines_of view.now.set.vertices.now view.now.set.counts.now) view.now.boxes.now
+        × Searched (outlines_of view.now.set.vertices.now view.now.set.counts.now) (buffer index.now.corners.now index.now.links.now index.now.items.now) × (0 < length view.now.set.counts.now) }
+    ensures { result ≡ least_in (outlines_of view.now.set.vertices.now view.now.set.counts.now) p }
 {
-    search_in(set, index, p, &mut Waiting::new())
+    search_in(view, index, p, &mut Waiting::new())
 }

@@ -10,6 +10,13 @@ ghost use Rattle.set.specs.Answers.{Starts};
 
 use geometry::polygon;
 
+// A set of outlines as it is lent: the vertices' numbers of all of them, and how many vertices each has.
+#[derive(Clone, Copy)]
+pub struct Set<'a> {
+    pub vertices: &'a [f64],
+    pub counts: &'a [u32],
+}
+
 // How many vertices stand before each outline.
 pub fn put_starts(counts: &[u32], starts: &mut [u32])
     requires { start_of counts.now (length counts.now) ≤ 65536 }
@@ -30,19 +37,6 @@ pub fn outline_from(v: &[f64], at: usize, end: usize) -> &[f64]
     &v[at..end]
 }
 
-// Outline k; past the last there is none.
-pub fn outline_at<'a>(v: &'a [f64], counts: &[u32], starts: &[u32], k: usize) -> &'a [f64]
-    requires { (2 * start_of counts.now (length counts.now) ≤ length v.now) × Starts counts.now starts.now }
-    ensures { result.now ≡ outline_in (outlines_of v.now counts.now) k }
-{
-    if k < counts.len() {
-        let at = 2 * (lists::at(starts, k, 0) as usize);
-        let end = at + 2 * (lists::at(counts, k, 0) as usize);
-        return outline_from(v, at, end);
-    }
-    outline_from(v, 0, 0)
-}
-
 // Stores the box of the outline whose numbers stand from `at` to `end` as box k.
 fn put_box(v: &[f64], at: usize, end: usize, boxes: &mut [f64], k: usize)
     requires { (at ≤ end) × (end ≤ length v.now) × (k < 2 ^ 32) }
@@ -51,15 +45,30 @@ fn put_box(v: &[f64], at: usize, end: usize, boxes: &mut [f64], k: usize)
     boxes::put_box(boxes, k, polygon::box_of(outline_from(v, at, end)));
 }
 
-// The boxes of all outlines.
-pub fn put_boxes(v: &[f64], counts: &[u32], boxes: &mut [f64])
-    requires { (length counts.now ≤ 1024) × (2 * start_of counts.now (length counts.now) ≤ length v.now) }
-    ensures { boxes.new ≡ sets boxes.old 0 (set_boxes (outlines_of v.now counts.now)) }
-{
-    let mut at = 0;
-    for (k, count) in counts.iter().enumerate() {
-        let end = at + 2 * (*count as usize);
-        put_box(v, at, end, boxes, k);
-        at = end;
+impl<'a> Set<'a> {
+    // Outline k; past the last there is none.
+    pub fn outline_at(&self, starts: &[u32], k: usize) -> &'a [f64]
+        requires { (2 * start_of self.now.counts.now (length self.now.counts.now) ≤ length self.now.vertices.now) × Starts self.now.counts.now starts.now }
+        ensures { result.now ≡ outline_in (outlines_of self.now.vertices.now self.now.counts.now) k }
+    {
+        if k < self.counts.len() {
+            let at = 2 * (lists::at(starts, k, 0) as usize);
+            let end = at + 2 * (lists::at(self.counts, k, 0) as usize);
+            return outline_from(self.vertices, at, end);
+        }
+        outline_from(self.vertices, 0, 0)
+    }
+
+    // The boxes of all outlines.
+    pub fn put_boxes(&self, boxes: &mut [f64])
+        requires { (length self.now.counts.now ≤ 1024) × (2 * start_of self.now.counts.now (length self.now.counts.now) ≤ length self.now.vertices.now) }
+        ensures { boxes.new ≡ sets boxes.old 0 (set_boxes (outlines_of self.now.vertices.now self.now.counts.now)) }
+    {
+        let mut at = 0;
+        for (k, count) in self.counts.iter().enumerate() {
+            let end = at + 2 * (*count as usize);
+            put_box(self.vertices, at, end, boxes, k);
+            at = end;
+        }
     }
 }

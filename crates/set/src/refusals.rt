@@ -7,7 +7,7 @@ ghost use Rattle.set.specs.Set.{start_of, outlines_of};
 ghost use Rattle.set.specs.Tests.{lists_tested, set_tested, set_query_tested};
 ghost use Rattle.set.specs.OnePass.{first_failed, least_failed, test_at, rank_of};
 
-use crate::outlines::outline_from;
+use crate::outlines::{Set, outline_from};
 use accept::Refusal;
 use accept::refusals::{point_in_field, refuse_when, sign_tested, test_of, values_tested};
 use boundary::Point;
@@ -71,15 +71,15 @@ fn lesser(a: u32, b: u32) -> u32
 }
 
 // The least of all outlines' numbers.
-fn least_failed(v: &[f64], counts: &[u32]) -> u32
-    requires { 2 * start_of counts.now (length counts.now) ≤ length v.now }
-    ensures { result ≡ least_failed (outlines_of v.now counts.now) }
+fn least_failed(set: &Set) -> u32
+    requires { 2 * start_of set.now.counts.now (length set.now.counts.now) ≤ length set.now.vertices.now }
+    ensures { result ≡ least_failed (outlines_of set.now.vertices.now set.now.counts.now) }
 {
     let mut least = 10;
     let mut at = 0;
-    for count in counts {
+    for count in set.counts {
         let end = at + 2 * (*count as usize);
-        least = lesser(least, rank_in(v, at, end));
+        least = lesser(least, rank_in(set.vertices, at, end));
         at = end;
     }
     least
@@ -99,37 +99,36 @@ fn test_at(n: u32) -> Result<(), Refusal>
 }
 
 // Tests 1 to 4.
-fn lists_tested(v: &[f64], counts: &[u32]) -> Result<(), Refusal>
-    ensures { result ≡ lists_tested v.now counts.now }
+fn lists_tested(set: &Set) -> Result<(), Refusal>
+    ensures { result ≡ lists_tested set.now.vertices.now set.now.counts.now }
 {
-    let n = v.len() / 2;
-    refuse_when(v.len() % 2 == 1, Refusal::OddCount)?;
-    refuse_when(!adds_up(counts, n), Refusal::BadCounts)?;
-    refuse_when(any_off(counts, true), Refusal::TooFew)?;
-    let large = (1024 < counts.len()) | (65536 < n);
-    refuse_when(any_off(counts, false) | large, Refusal::TooMany)
+    let n = set.vertices.len() / 2;
+    refuse_when(set.vertices.len() % 2 == 1, Refusal::OddCount)?;
+    refuse_when(!adds_up(set.counts, n), Refusal::BadCounts)?;
+    refuse_when(any_off(set.counts, true), Refusal::TooFew)?;
+    let large = (1024 < set.counts.len()) | (65536 < n);
+    refuse_when(any_off(set.counts, false) | large, Refusal::TooMany)
 }
 
 // The tests of a set, 1 to 9.
-pub fn set_tested(v: &[f64], counts: &[u32]) -> Result<(), Refusal>
-    ensures { result ≡ set_tested v.now counts.now }
+pub fn set_tested(set: &Set) -> Result<(), Refusal>
+    ensures { result ≡ set_tested set.now.vertices.now set.now.counts.now }
 {
-    lists_tested(v, counts)?;
-    test_at(least_failed(v, counts))
+    lists_tested(set)?;
+    test_at(least_failed(set))
 }
 
 // The tests of a query, 13 the last.
 pub fn query_tested(
-    v: &[f64],
-    counts: &[u32],
+    set: &Set,
     p: Point,
     corners: &[f64],
     links: &[u32],
     items: &[u32],
 ) -> Result<(), Refusal>
-    ensures { result ≡ set_query_tested v.now counts.now p (buffer corners.now links.now items.now) }
+    ensures { result ≡ set_query_tested set.now.vertices.now set.now.counts.now p (buffer corners.now links.now items.now) }
 {
-    set_tested(v, counts)?;
+    set_tested(set)?;
     refuse_when(!point_in_field(p), Refusal::BadPoint)?;
     let short = short_index(corners.len(), links.len(), items.len());
     refuse_when(short, Refusal::ShortBuffer)

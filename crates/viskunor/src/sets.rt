@@ -8,6 +8,7 @@ ghost use Rattle.many.specs.Answers.{lent_as, many_call};
 
 use accept::answers::fields;
 use boundary::Point;
+use set::outlines::Set;
 
 pub fn vk_set_any_at(
     vertices: &[f64],
@@ -22,7 +23,13 @@ pub fn vk_set_any_at(
     ensures { record { answer = record { number = result; value = any.new }; lent = buffer corners.new links.new items.new }
         ≡ any_call vertices.now counts.now (record { x = x; y = y }) (buffer corners.old links.old items.old) }
 {
-    let answer = any::any_at(vertices, counts, Point { x, y }, corners, links, items);
+    let answer = any::any_at(
+        &Set { vertices, counts },
+        Point { x, y },
+        corners,
+        links,
+        items,
+    );
     let (number, value) = fields(answer);
     *any = value;
     number
@@ -43,7 +50,13 @@ pub fn vk_set_nearest(
     ensures { record { answer = record { number = result; found = found.new; outline = outline.new; distance = distance.new }; lent = buffer corners.new links.new items.new }
         ≡ nearest_call vertices.now counts.now (record { x = x; y = y }) (buffer corners.old links.old items.old) }
 {
-    let answer = nearest::nearest_to(vertices, counts, Point { x, y }, corners, links, items);
+    let answer = nearest::nearest_to(
+        &Set { vertices, counts },
+        Point { x, y },
+        corners,
+        links,
+        items,
+    );
     let told = nearest::answers::nearest_fields(answer);
     *found = told.found;
     *outline = told.outline;
@@ -66,7 +79,13 @@ pub fn vk_set_nearest_many(
         ≡ many_call vertices.now counts.now points.now (lent_as corners.old links.old items.old outlines.old distances.old) }
 {
     let answer = many::nearest_many(
-        vertices, counts, points, corners, links, items, outlines, distances,
+        &Set { vertices, counts },
+        points,
+        corners,
+        links,
+        items,
+        outlines,
+        distances,
     );
     let (number, value) = fields(answer);
     *found = value;

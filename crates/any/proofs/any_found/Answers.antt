@@ -12,4 +12,4 @@ pub returns : goal.returns
 returns c =
     let a = c.args in
     let B = buffer a.view.now.corners.now a.view.now.links.now a.view.now.items.now in
-    any_listed a.v.now a.counts.now a.p c.requires.0 c.requires.1 B c.requires.3 _ _ _ (search rules) c.walk-count.ensures _ c.any_holds.ensures
+    any_listed a.set.now.vertices.now a.set.now.counts.now a.p c.requires.0 c.requires.1 B c.requires.3 _ _ _ (search rules) c.walk-count.ensures _ c.any_holds.ensures

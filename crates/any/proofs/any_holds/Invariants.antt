@@ -9,4 +9,4 @@ use Rattle.any.proofs.AnyLaws.{any_step}
 use Rattle.any.proofs.any_holds.Given as goal
 
 abbrev pub invariant-loop-k : goal.invariant-loop-k
-invariant-loop-k l = fold (any_step (contains_in (outlines_of l.v l.counts) l.p)) false (drop l.k-index l.list) ≡ any (contains_in (outlines_of l.v l.counts) l.p) l.list
+invariant-loop-k l = fold (any_step (contains_in (outlines_of l.set.vertices.now l.set.counts.now) l.p)) false (drop l.k-index l.list) ≡ any (contains_in (outlines_of l.set.vertices.now l.set.counts.now) l.p) l.list

@@ -28,8 +28,8 @@ search_in-best-requires c =
 pub loop-i-preserved : goal.loop-i-preserved
 loop-i-preserved c =
     let a = c.args in
-    let os = outlines_of a.set.now.vertices.now a.set.now.counts.now in
-    let n = outlines_length a.set.now.vertices.now a.set.now.counts.now in
+    let os = outlines_of a.view.now.set.vertices.now a.view.now.set.counts.now in
+    let n = outlines_length a.view.now.set.vertices.now a.view.now.set.counts.now in
     let m = c.requires.0.some in
     let e = sym (answer_best os (vertex_at a.ps.now c.loop-i.i) (omega arith)) in
     let f = rw c.vertex_at-p.ensures at c.search_in-best.ensures in (
@@ -48,4 +48,4 @@ returns c =
     let a = c.args in
     let inv = c.loop-i.invariant in
     let z = le_antisymm (search rules) c.loop-i-test.false in
-    rw (inv.0, inv.1, z) (lists_written (outlines_of a.set.now.vertices.now a.set.now.counts.now) a.ps.now a.near.now a.distances.now c.requires.2.0 c.requires.2.1)
+    rw (inv.0, inv.1, z) (lists_written (outlines_of a.view.now.set.vertices.now a.view.now.set.counts.now) a.ps.now a.near.now a.distances.now c.requires.2.0 c.requires.2.1)

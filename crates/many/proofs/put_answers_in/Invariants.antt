@@ -8,5 +8,5 @@ use Rattle.many.proofs.put_answers_in.Given as goal
 
 abbrev pub invariant-loop-i : goal.invariant-loop-i
 invariant-loop-i l =
-    (l.near ≡ sets l.initial.near 0 (run (λ k. (answer_at (outlines_of l.set.vertices.now l.set.counts.now) l.ps k).outline) 0 l.i))
-    × (l.distances ≡ sets l.initial.distances 0 (run (λ k. (answer_at (outlines_of l.set.vertices.now l.set.counts.now) l.ps k).distance) 0 l.i))
+    (l.near ≡ sets l.initial.near 0 (run (λ k. (answer_at (outlines_of l.view.set.vertices.now l.view.set.counts.now) l.ps k).outline) 0 l.i))
+    × (l.distances ≡ sets l.initial.distances 0 (run (λ k. (answer_at (outlines_of l.view.set.vertices.now l.view.set.counts.now) l.ps k).distance) 0 l.i))

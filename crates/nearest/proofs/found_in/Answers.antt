@@ -17,8 +17,8 @@ search-best-requires c =
     let s = h in
     let a = s.args in
     let r = s.requires.0 in
-    let v = a.v.now in
-    let cs = a.counts.now in
+    let v = a.set.now.vertices.now in
+    let cs = a.set.now.counts.now in
     let B = buffer a.corners.now a.links.now a.items.now in
     let starts = starts_put cs a.starts.now _ s.requires.2.starts t.put_starts.ensures in
     let held = h.all_held.ensures in
@@ -46,5 +46,5 @@ returns c =
     let s = g in
     let a = s.args in
     let B = buffer a.corners.now a.links.now a.items.now in
-    let e = set_cleared a.v.now a.counts.now B s.requires.0 _ g.index_in.ensures.0 in
+    let e = set_cleared a.set.now.vertices.now a.set.now.counts.now B s.requires.0 _ g.index_in.ensures.0 in
     ap₂ (λ (r : Best) (B : IndexBuffer). record { answer = r; lent = B }) w.search-best.ensures (c.clear.ensures ∙ e)

@@ -10,5 +10,5 @@ use Rattle.search.proofs.look.Given as goal
 
 abbrev pub invariant-loop-i : goal.invariant-loop-i
 invariant-loop-i l =
-    (fold (λ b k. improved b k (magnitude_at (outlines_of l.set.vertices.now l.set.counts.now) l.p k)) l.kept.best (run (item_at l.index.items.now) (l.first + l.i) (l.count - l.i)) ≡ best_of (magnitude_at (outlines_of l.set.vertices.now l.set.counts.now) l.p) l.initial.kept.best (run (item_at l.index.items.now) l.first l.count))
+    (fold (λ b k. improved b k (magnitude_at (outlines_of l.view.set.vertices.now l.view.set.counts.now) l.p k)) l.kept.best (run (item_at l.index.items.now) (l.first + l.i) (l.count - l.i)) ≡ best_of (magnitude_at (outlines_of l.view.set.vertices.now l.view.set.counts.now) l.p) l.initial.kept.best (run (item_at l.index.items.now) l.first l.count))
     × Clear l.p l.kept

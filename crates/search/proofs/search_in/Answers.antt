@@ -20,41 +20,41 @@ none_of h = omega arith
 pub push-requires : goal.push-requires
 push-requires c = (rw c.clear.ensures (omega arith), rw c.entry_for.ensures (squares_number _ _))
 
-pub overflow_cast-set : goal.overflow_cast-set
-overflow_cast-set c =
+pub overflow_cast-view : goal.overflow_cast-view
+overflow_cast-view c =
     let a = c.args in
     let h = c.requires.0.fitting.size in
-    let l = outlines_length a.set.now.vertices.now a.set.now.counts.now in
+    let l = outlines_length a.view.now.set.vertices.now a.view.now.set.counts.now in
     search rules
 
 pub loop-e-init : goal.loop-e-init
 loop-e-init c =
     let a = c.args in
-    let os = outlines_of a.set.now.vertices.now a.set.now.counts.now in
+    let os = outlines_of a.view.now.set.vertices.now a.view.now.set.counts.now in
     let B = buffer a.index.now.corners.now a.index.now.links.now a.index.now.items.now in
     let A = c.requires.0 in
     let P = owned_point c.well_formed.1.1.0 A.point in
     let h = set_search_first os A.fitting A.held a.p P B c.requires.2 _ _ (rw (c.entry_for.ensures, c.clear.ensures) at c.push.ensures.pushed) in
-    rw (c.none_kept-kept.ensures, ← outlines_length a.set.now.vertices.now a.set.now.counts.now, c.push.ensures.len, c.clear.ensures) h
+    rw (c.none_kept-kept.ensures, ← outlines_length a.view.now.set.vertices.now a.view.now.set.counts.now, c.push.ensures.len, c.clear.ensures) h
 
 pub returns-then-kept-e : goal.returns-then-kept-e
 returns-then-kept-e c =
     let a = c.args in
-    let os = outlines_of a.set.now.vertices.now a.set.now.counts.now in
+    let os = outlines_of a.view.now.set.vertices.now a.view.now.set.counts.now in
     let B = buffer a.index.now.corners.now a.index.now.links.now a.index.now.items.now in
     let D = magnitude_at os a.p in
     let n = length os in
     let A = c.requires.0 in
     let P = owned_point c.well_formed.1.1.0 A.point in
     let S = c.loop-e.invariant in
-    let k = outlines_length a.set.now.vertices.now a.set.now.counts.now in
+    let k = outlines_length a.view.now.set.vertices.now a.view.now.set.counts.now in
     let m = c.requires.3 in
     set_search_end os A.fitting A.held a.p P B c.requires.2 (omega arith) _ S.among (upto_above B most a.p D n S c.in-Some.ensures.popped c.if-kept-e.true)
 
 pub look-kept-requires : goal.look-kept-requires
 look-kept-requires c =
     let a = c.args in
-    let os = outlines_of a.set.now.vertices.now a.set.now.counts.now in
+    let os = outlines_of a.view.now.set.vertices.now a.view.now.set.counts.now in
     let B = buffer a.index.now.corners.now a.index.now.links.now a.index.now.items.now in
     let D = magnitude_at os a.p in
     let n = length os in
@@ -67,7 +67,7 @@ look-kept-requires c =
 pub loop-e-smaller-then-count-gt0 : goal.loop-e-smaller-then-count-gt0
 loop-e-smaller-then-count-gt0 c =
     let a = c.args in
-    let os = outlines_of a.set.now.vertices.now a.set.now.counts.now in
+    let os = outlines_of a.view.now.set.vertices.now a.view.now.set.counts.now in
     let B = buffer a.index.now.corners.now a.index.now.links.now a.index.now.items.now in
     let D = magnitude_at os a.p in
     let n = length os in
@@ -76,7 +76,7 @@ loop-e-smaller-then-count-gt0 c =
 pub loop-e-preserved-then-count-gt0 : goal.loop-e-preserved-then-count-gt0
 loop-e-preserved-then-count-gt0 c =
     let a = c.args in
-    let os = outlines_of a.set.now.vertices.now a.set.now.counts.now in
+    let os = outlines_of a.view.now.set.vertices.now a.view.now.set.counts.now in
     let B = buffer a.index.now.corners.now a.index.now.links.now a.index.now.items.now in
     let D = magnitude_at os a.p in
     let n = length os in
@@ -92,7 +92,7 @@ loop-e-preserved-then-count-gt0 c =
 pub wait_both-requires : goal.wait_both-requires
 wait_both-requires c =
     let a = c.args in
-    let os = outlines_of a.set.now.vertices.now a.set.now.counts.now in
+    let os = outlines_of a.view.now.set.vertices.now a.view.now.set.counts.now in
     let B = buffer a.index.now.corners.now a.index.now.links.now a.index.now.items.now in
     let D = magnitude_at os a.p in
     let n = length os in
@@ -108,7 +108,7 @@ wait_both-requires c =
 pub loop-e-smaller : goal.loop-e-smaller
 loop-e-smaller c =
     let a = c.args in
-    let os = outlines_of a.set.now.vertices.now a.set.now.counts.now in
+    let os = outlines_of a.view.now.set.vertices.now a.view.now.set.counts.now in
     let B = buffer a.index.now.corners.now a.index.now.links.now a.index.now.items.now in
     let D = magnitude_at os a.p in
     let n = length os in
@@ -118,7 +118,7 @@ loop-e-smaller c =
 pub loop-e-preserved : goal.loop-e-preserved
 loop-e-preserved c =
     let a = c.args in
-    let os = outlines_of a.set.now.vertices.now a.set.now.counts.now in
+    let os = outlines_of a.view.now.set.vertices.now a.view.now.set.counts.now in
     let B = buffer a.index.now.corners.now a.index.now.links.now a.index.now.items.now in
     let D = magnitude_at os a.p in
     let n = length os in
@@ -128,14 +128,14 @@ loop-e-preserved c =
 pub returns : goal.returns
 returns c =
     let a = c.args in
-    let os = outlines_of a.set.now.vertices.now a.set.now.counts.now in
+    let os = outlines_of a.view.now.set.vertices.now a.view.now.set.counts.now in
     let B = buffer a.index.now.corners.now a.index.now.links.now a.index.now.items.now in
     let D = magnitude_at os a.p in
     let n = length os in
     let A = c.requires.0 in
     let P = owned_point c.well_formed.1.1.0 A.point in
     let S = c.loop-e.invariant in
-    let k = outlines_length a.set.now.vertices.now a.set.now.counts.now in
+    let k = outlines_length a.view.now.set.vertices.now a.view.now.set.counts.now in
     let m = c.requires.3 in
     let z = c.in_default.ensures.none.0 refl in
     set_search_end os A.fitting A.held a.p P B c.requires.2 (omega arith) _ S.among (upto_none B most a.p D n S (omega arith))

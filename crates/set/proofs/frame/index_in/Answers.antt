@@ -10,6 +10,6 @@ returns c =
     let s = x in
     let a = s.args in
     let B = buffer a.corners.now a.links.now a.items.now in (
-      grown_set a.v.now a.counts.now B a.boxes.now _ s.requires.1 x.put_boxes.ensures _ _ c.grow_or_leaf.ensures,
-      boxes_put a.v.now a.counts.now a.boxes.now _ s.requires.1 x.put_boxes.ensures,
+      grown_set a.set.now.vertices.now a.set.now.counts.now B a.boxes.now _ s.requires.1 x.put_boxes.ensures _ _ c.grow_or_leaf.ensures,
+      boxes_put a.set.now.vertices.now a.set.now.counts.now a.boxes.now _ s.requires.1 x.put_boxes.ensures,
     )

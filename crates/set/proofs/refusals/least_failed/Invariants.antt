@@ -14,4 +14,4 @@ step n o = min n (first_failed o)
 
 abbrev pub invariant-loop-count : goal.invariant-loop-count
 invariant-loop-count l =
-    (l.at ≡ 2 * start_of l.counts l.count-index) × (fold step l.least (run (outline_at l.v l.counts) l.count-index (length l.counts - l.count-index)) ≡ least_failed (outlines_of l.v l.counts))
+    (l.at ≡ 2 * start_of l.set.counts.now l.count-index) × (fold step l.least (run (outline_at l.set.vertices.now l.set.counts.now) l.count-index (length l.set.counts.now - l.count-index)) ≡ least_failed (outlines_of l.set.vertices.now l.set.counts.now))

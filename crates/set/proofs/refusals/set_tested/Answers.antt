@@ -10,7 +10,7 @@ use Rattle.set.proofs.refusals.set_tested.Goals as goal
 pub least_failed-requires : goal.least_failed-requires
 least_failed-requires c =
     let a = c.args in
-    fit_within a.v.now a.counts.now (lists_fit a.v.now a.counts.now (sym c.lists_tested.ensures ∙ c.in_ok-lists_tested.was))
+    fit_within a.set.now.vertices.now a.set.now.counts.now (lists_fit a.set.now.vertices.now a.set.now.counts.now (sym c.lists_tested.ensures ∙ c.in_ok-lists_tested.was))
 
 pub returns : goal.returns
 unfolding set_tested

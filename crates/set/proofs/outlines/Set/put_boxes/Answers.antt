@@ -1,4 +1,4 @@
--- `set::outlines::put_boxes` meets its contract: the boxes so far stand at the front. Assumes nothing.
+-- `set::outlines::Set::put_boxes` meets its contract: the boxes so far stand at the front. Assumes nothing.
 use mathlib.Core.Path.{refl, ap, ◌∙◌}
 use mathlib.Core.List.{List, flat_map}
 use native.Mathlib.Nat.{le_antisymm}
@@ -14,7 +14,7 @@ use Rattle.lists.proofs.StoreLaws.{flat_more}
 use Rattle.set.specs.Set.{start_of, outline_at, outlines_of, set_boxes}
 use Rattle.set.proofs.SetLaws.{start_next, part_within, part_is}
 use borrow.Author.Rules.{rules}
-use Rattle.set.proofs.outlines.put_boxes.Goals as goal
+use Rattle.set.proofs.outlines.Set.put_boxes.Goals as goal
 
 abbrev boxed : List Float → List Float
 boxed o = box_numbers (bounds_of (vertices o))
@@ -28,7 +28,7 @@ overflow_add-end c =
     let d = c in
     let a = d.args in
     let i = c.loop-k.invariant.0 in
-    let w = part_within a.v.now a.counts.now d.requires.1 c.loop-k.k c.loop-k-test.true in
+    let w = part_within a.self.now.vertices.now a.self.now.counts.now d.requires.1 c.loop-k.k c.loop-k-test.true in
     search rules
 
 pub put_box-requires : goal.put_box-requires
@@ -38,7 +38,7 @@ put_box-requires c =
     let i = c.loop-k.invariant.0 in
     let s = d.requires.0 in
     let t = c.loop-k-test.true in
-    let w = part_within a.v.now a.counts.now d.requires.1 c.loop-k.k t in
+    let w = part_within a.self.now.vertices.now a.self.now.counts.now d.requires.1 c.loop-k.k t in
     (omega arith, omega arith, omega arith)
 
 pub loop-k-preserved : goal.loop-k-preserved
@@ -46,9 +46,9 @@ loop-k-preserved c =
     let d = c in
     let a = d.args in
     let i = c.loop-k.invariant.0 in
-    let n = start_next a.counts.now c.loop-k.k in
-    let same = part_is a.v.now a.counts.now c.loop-k.k _ _ i refl in
-    (omega arith, flat_more boxed 4 (λ _. refl) _ _ _ (outline_at a.v.now a.counts.now) _ _ c.loop-k.invariant.1 same c.put_box.ensures)
+    let n = start_next a.self.now.counts.now c.loop-k.k in
+    let same = part_is a.self.now.vertices.now a.self.now.counts.now c.loop-k.k _ _ i refl in
+    (omega arith, flat_more boxed 4 (λ _. refl) _ _ _ (outline_at a.self.now.vertices.now a.self.now.counts.now) _ _ c.loop-k.invariant.1 same c.put_box.ensures)
 
 pub shape_of-boxes : goal.shape_of-boxes
 shape_of-boxes c = ap length c.loop-k.invariant.1 ∙ simp length-sets
