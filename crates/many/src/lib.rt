@@ -29,7 +29,7 @@ fn bad_point_count(ps: &[f64]) -> bool
     (ps.len() % 2 == 1) | (256 < ps.len() / 2)
 }
 
-// Test 10, over all points.
+// Test 10, over all points. By place: a closure for `lists::any` would owe that the place is one of the list.
 fn any_bad_point(ps: &[f64]) -> bool
     ensures { result ≡ any_bad_point ps.now }
 {

@@ -28,25 +28,8 @@ fn adds_up(counts: &[u32], n: usize) -> bool
     left == 0
 }
 
-// Whether an outline has fewer than three vertices, where `few` is asked; else whether one has more than
-// 4,096.
-fn any_off(counts: &[u32], few: bool) -> bool
-    ensures { result ≡ any (λ n. cond few (ltb n 3) (ltb 4096 n)) counts.now }
-{
-    let mut found = false;
-    for count in counts {
-        found = found | is_off(few, *count);
-    }
-    found
-}
-
-fn is_off(few: bool, n: u32) -> bool
-    ensures { result ≡ cond few (ltb n 3) (ltb 4096 n) }
-{
-    if few { n < 3 } else { 4096 < n }
-}
-
-// The number of what the tests say of an outline, 10 where it passes.
+// The number of what the tests say of an outline, 10 where it passes: what an outline fails first is told by the least
+// number (`least_failed`), and a refusal has neither an order nor a value above all.
 fn rank_of(t: Result<(), Refusal>) -> u32
     ensures { result ≡ rank_of t }
 {
@@ -64,22 +47,17 @@ fn rank_in(v: &[f64], at: usize, end: usize) -> u32
     rank_of(test_of(sign_tested(values_tested(outline_from(v, at, end)))))
 }
 
-fn lesser(a: u32, b: u32) -> u32
-    ensures { result ≡ min a b }
-{
-    if b < a { b } else { a }
-}
-
 // The least of all outlines' numbers.
 fn least_failed(set: &Set) -> u32
     requires { 2 * start_of set.now.counts.now (length set.now.counts.now) ≤ length set.now.vertices.now }
     ensures { result ≡ least_failed (outlines_of set.now.vertices.now set.now.counts.now) }
 {
-    let mut least = 10;
+    let mut least: u32 = 10;
     let mut at = 0;
     for count in set.counts {
         let end = at + 2 * (*count as usize);
-        least = lesser(least, rank_in(set.vertices, at, end));
+        let rank = rank_in(set.vertices, at, end);
+        least = least.min(rank);
         at = end;
     }
     least
@@ -105,9 +83,11 @@ fn lists_tested(set: &Set) -> Result<(), Refusal>
     let n = set.vertices.len() / 2;
     refuse_when(set.vertices.len() % 2 == 1, Refusal::OddCount)?;
     refuse_when(!adds_up(set.counts, n), Refusal::BadCounts)?;
-    refuse_when(any_off(set.counts, true), Refusal::TooFew)?;
+    let few = lists::any(set.counts, |count| count < 3);
+    refuse_when(few, Refusal::TooFew)?;
+    let many = lists::any(set.counts, |count| 4096 < count);
     let large = (1024 < set.counts.len()) | (65536 < n);
-    refuse_when(any_off(set.counts, false) | large, Refusal::TooMany)
+    refuse_when(many | large, Refusal::TooMany)
 }
 
 // The tests of a set, 1 to 9.

@@ -23,13 +23,8 @@ pub fn vk_set_any_at(
     ensures { record { answer = record { number = result; value = any.new }; lent = buffer corners.new links.new items.new }
         ≡ any_call vertices.now counts.now (record { x = x; y = y }) (buffer corners.old links.old items.old) }
 {
-    let answer = any::any_at(
-        &Set { vertices, counts },
-        Point { x, y },
-        corners,
-        links,
-        items,
-    );
+    let set = Set { vertices, counts };
+    let answer = any::any_at(&set, Point { x, y }, corners, links, items);
     let (number, value) = fields(answer);
     *any = value;
     number
@@ -50,13 +45,8 @@ pub fn vk_set_nearest(
     ensures { record { answer = record { number = result; found = found.new; outline = outline.new; distance = distance.new }; lent = buffer corners.new links.new items.new }
         ≡ nearest_call vertices.now counts.now (record { x = x; y = y }) (buffer corners.old links.old items.old) }
 {
-    let answer = nearest::nearest_to(
-        &Set { vertices, counts },
-        Point { x, y },
-        corners,
-        links,
-        items,
-    );
+    let set = Set { vertices, counts };
+    let answer = nearest::nearest_to(&set, Point { x, y }, corners, links, items);
     let told = nearest::answers::nearest_fields(answer);
     *found = told.found;
     *outline = told.outline;
@@ -78,15 +68,8 @@ pub fn vk_set_nearest_many(
     ensures { record { answer = record { number = result; value = found.new }; lent = lent_as corners.new links.new items.new outlines.new distances.new }
         ≡ many_call vertices.now counts.now points.now (lent_as corners.old links.old items.old outlines.old distances.old) }
 {
-    let answer = many::nearest_many(
-        &Set { vertices, counts },
-        points,
-        corners,
-        links,
-        items,
-        outlines,
-        distances,
-    );
+    let set = Set { vertices, counts };
+    let answer = many::nearest_many(&set, points, corners, links, items, outlines, distances);
     let (number, value) = fields(answer);
     *found = value;
     number

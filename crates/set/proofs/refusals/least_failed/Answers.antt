@@ -27,8 +27,8 @@ overflow_add-end c =
     let h = part_within a.set.now.vertices.now a.set.now.counts.now c.requires c.loop-count.count-index c.loop-count-test.true in
     search rules
 
-pub rank_in-requires : goal.rank_in-requires
-rank_in-requires c =
+pub rank_in-rank-requires : goal.rank_in-rank-requires
+rank_in-rank-requires c =
     let a = c.args in
     let i = c.loop-count.invariant.0 in
     let h = part_within a.set.now.vertices.now a.set.now.counts.now c.requires c.loop-count.count-index c.loop-count-test.true in
@@ -40,7 +40,7 @@ loop-count-preserved c =
     let i = c.loop-count.invariant.0 in
     let n = start_next a.set.now.counts.now c.loop-count.count-index in (
       omega arith,
-      rw (c.lesser-least.ensures, c.rank_in.ensures, part_is a.set.now.vertices.now a.set.now.counts.now c.loop-count.count-index c.loop-count.at (c.loop-count.at + 2 * get_or a.set.now.counts.now c.loop-count.count-index 0) i refl)
+      rw (c.min-least.ensures, c.rank_in-rank.ensures, part_is a.set.now.vertices.now a.set.now.counts.now c.loop-count.count-index c.loop-count.at (c.loop-count.at + 2 * get_or a.set.now.counts.now c.loop-count.count-index 0) i refl)
           (sym (fold_run_next step (outline_at a.set.now.vertices.now a.set.now.counts.now) _ _ _ c.loop-count-test.true) ∙ c.loop-count.invariant.1),
     )
 
