@@ -69,7 +69,7 @@ fn put_answers_in(
     view: &SetView,
     index: &IndexView,
     ps: &[f64],
-    waiting: &mut Waiting,
+    waiting: &mut Waiting<512>,
     near: &mut [u32],
     distances: &mut [f64],
 )

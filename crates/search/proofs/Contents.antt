@@ -13,19 +13,14 @@ use lib.ListN.{length, get_or, set, length-set}
 use lib.Seq.{get_or-set_same, get_or-set_other}
 use lib.Ieee.{Float, nan, inf, fin}
 use Rattle.search.specs.declared.Entry.{Entry}
-use Rattle.search.specs.Heap.{no_entry, entry_at, total_weight}
-use Rattle.std.proofs.lemmas.List.Edits.{swap_is}
-use Rattle.std.specs.Prelude.{swap}
+use Rattle.search.specs.Heap.{entry_at, total_weight}
+use Rattle.search.specs.Sifts.{exchanged}
 
 -- ---- g is f with the entries at i and j exchanged
 pub record Swap (f g : ℕ → Entry) (i j : ℕ) : Type 0 where
   pub left : g i ≡ f j
   pub right : g j ≡ f i
   pub rest : (k : ℕ) → (k ≡ i → ⊥) → (k ≡ j → ⊥) → g k ≡ f k
-
--- the list with what stands at i and j exchanged
-abbrev exchanged : {A : Type 0} → A → List A → ℕ → ℕ → List A
-exchanged d l i j = set (set l i (get_or l j d)) j (get_or l i d)
 
 exchanged_right : {A : Type 0} (d : A) (l : List A) (i j : ℕ) → j < length l → get_or (exchanged d l i j) j d ≡ get_or l i d
 exchanged_right d l i j J = get_or-set_same (set l i (get_or l j d)) j (get_or l i d) d (rw length-set J)
@@ -40,14 +35,12 @@ exchanged_left d l i j I J = go (ℕ_discrete i j)
 exchanged_rest : {A : Type 0} (d : A) (l : List A) (i j k : ℕ) → (k ≡ i → ⊥) → (k ≡ j → ⊥) → get_or (exchanged d l i j) k d ≡ get_or l k d
 exchanged_rest d l i j k ki kj = get_or-set_other (set l i (get_or l j d)) j k (get_or l i d) d kj ∙ get_or-set_other l i k (get_or l j d) d ki
 
-pub exchanged_swap : (E : List Entry) {E' : List Entry} (i j : ℕ) → E' ≡ swap E i j → i < length E → j < length E → Swap (entry_at E) (entry_at E') i j
-exchanged_swap E i j e I J =
-    let d = e ∙ sym (swap_is E i j no_entry I J) in
-    record {
-      left = rw d (exchanged_left no_entry E i j I J);
-      right = rw d (exchanged_right no_entry E i j J);
-      rest = λ k ki kj. rw d (exchanged_rest no_entry E i j k ki kj);
-    }
+pub exchanged_swap : (N : List ℕ) (G : List Float) {N' : List ℕ} {G' : List Float} (i j : ℕ) → N' ≡ exchanged 0 N i j → G' ≡ exchanged nan G i j → i < length N → i < length G → j < length N → j < length G → Swap (entry_at N G) (entry_at N' G') i j
+exchanged_swap N G i j n g iN iG jN jG = record {
+  left = rw (n, g, exchanged_left 0 N i j iN jN, exchanged_left nan G i j iG jG);
+  right = rw (n, g, exchanged_right 0 N i j jN, exchanged_right nan G i j jG);
+  rest = λ k ki kj. rw (n, g, exchanged_rest 0 N i j k ki kj, exchanged_rest nan G i j k ki kj);
+}
 
 -- what holds of every entry still does
 pub swap_all : (P : Entry → Type 0) {f g : ℕ → Entry} {i j n : ℕ} → Swap f g i j → i < n → j < n → ((k : ℕ) → k < n → P (f k)) → (k : ℕ) → k < n → P (g k)

@@ -8,10 +8,10 @@ use native.Mathlib.Omega.{arith}
 use lib.Dec.{T}
 use lib.ListN.{length, set}
 use lib.Seq.{get_or-set_same, get_or-set_other}
-use lib.Ieee.{le}
+use lib.Ieee.{Float, nan, le}
 use Rattle.search.specs.declared.Entry.{Entry}
 use Rattle.search.specs.Order.{NumberGap, ◌≼◌}
-use Rattle.search.specs.Heap.{no_entry, entry_at, parent, Heaped, total_weight, Pushed, Popped}
+use Rattle.search.specs.Heap.{entry_at, parent, Heaped, total_weight, Pushed, Popped}
 use Rattle.search.specs.Sifts.{Rising, Sinking, Sifted}
 use Rattle.search.proofs.EntryOrder.{upto_gap, upto_through}
 use Rattle.search.proofs.Contents.{Swap, swap_all, total_same, total_swap, more_all, less_all}
@@ -41,17 +41,17 @@ pub popped_gap : {f g : ℕ → Entry} {n : ℕ} {x : Entry} → Popped f n x g 
 popped_gap H k K = upto_gap (H.least k K)
 
 -- ---- push: x stands behind the heap, and rises
-module _ (E : List Entry) (n : ℕ) (x : Entry) (room : n < length E) where
+module _ (N : List ℕ) (G : List Float) (n : ℕ) (x : Entry) (nodes : n < length N) (gaps : n < length G) where
   abbrev longer : ℕ → Entry
-  longer = entry_at (set E n x)
+  longer = entry_at (set N n x.node) (set G n x.gap)
 
-  longer_rest : (k : ℕ) → k < n → longer k ≡ entry_at E k
-  longer_rest k K = get_or-set_other E n k x no_entry (λ z. omega arith)
+  longer_rest : (k : ℕ) → k < n → longer k ≡ entry_at N G k
+  longer_rest k K = rw (get_or-set_other N n k x.node 0 (λ z. omega arith), get_or-set_other G n k x.gap nan (λ z. omega arith))
 
   longer_last : longer n ≡ x
-  longer_last = get_or-set_same E n x no_entry room
+  longer_last = rw (get_or-set_same N n x.node 0 nodes, get_or-set_same G n x.gap nan gaps)
 
-  pub push_rising : Heaped (entry_at E) n → NumberGap x → Rising longer (n + 1) n
+  pub push_rising : Heaped (entry_at N G) n → NumberGap x → Rising longer (n + 1) n
   push_rising H X = record {
     here = last;
     numbers = λ k K. number k K (ℕ_discrete k n);
@@ -66,9 +66,9 @@ module _ (E : List Entry) (n : ℕ) (x : Entry) (room : n < length E) where
       number k K (yes e) = subst (λ (v : ℕ). NumberGap (longer v)) (sym e) last
       number k K (no a) = subst NumberGap (sym (longer_rest k (omega arith))) (H.ordered k (omega arith)).right
 
-  pub pushed : {g : ℕ → Entry} → Sifted longer (n + 1) g → Pushed (entry_at E) n x g
+  pub pushed : {g : ℕ → Entry} → Sifted longer (n + 1) g → Pushed (entry_at N G) n x g
   unfolding total_weight
-  pushed S = record { heaped = S.heaped; contents = λ w. S.contents w ∙ rw (add-one n, total_same w {f = entry_at E} {g = longer} n longer_rest, longer_last) }
+  pushed S = record { heaped = S.heaped; contents = λ w. S.contents w ∙ rw (add-one n, total_same w {f = entry_at N G} {g = longer} n longer_rest, longer_last) }
 
 -- ---- pop: the last entry takes the root's place, and sinks
 module _ {f h : ℕ → Entry} {n : ℕ} (S : Swap f h 0 (n - 1)) (N0 : 0 < n) (H : Heaped f n) where

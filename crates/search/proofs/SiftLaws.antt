@@ -1,5 +1,5 @@
 -- An entry that moves up or down by exchanges ends in a heap. Assumes nothing.
-use mathlib.Core.Path.{◌≡◌, refl, sym, ◌∙◌, subst}
+use mathlib.Core.Path.{◌≡◌, refl, sym, ap, ◌∙◌, subst}
 use mathlib.Core.Logic.{◌⊎◌, inl, inr, ⊎_elim}
 use mathlib.Core.Bool.{Bool, true, false, cond, ◌&&◌}
 use mathlib.Core.List.{List}
@@ -8,12 +8,12 @@ use native.Mathlib.Decide.{ℕ_discrete}
 use native.Mathlib.Omega.{arith}
 use borrow.Author.Tests.{ltb-true, ltb-false, le-ltb}
 use lib.Dec.{T, ltb}
-use lib.ListN.{length}
+use lib.ListN.{length, length-set}
+use lib.Ieee.{Float, nan}
 use Rattle.search.specs.declared.Entry.{Entry}
 use Rattle.search.specs.Order.{entry_before, NumberGap, ◌≼◌}
 use Rattle.search.specs.Heap.{entry_at, parent, Heaped, total_weight}
-use Rattle.std.specs.Prelude.{swap}
-use Rattle.search.specs.Sifts.{rises, earlier_of, least_child, Rising, Sinking}
+use Rattle.search.specs.Sifts.{exchanged, rises, earlier_of, least_child, Rising, Sinking}
 use Rattle.search.proofs.EntryOrder.{upto_of_before, upto_of_not, upto_self, upto_through}
 use Rattle.search.proofs.Contents.{Swap, exchanged_swap, swap_all, total_swap}
 
@@ -21,17 +21,19 @@ use Rattle.search.proofs.Contents.{Swap, exchanged_swap, swap_all, total_swap}
 moved : {a b c d : Entry} → a ≼ b → c ≡ a → d ≡ b → c ≼ d
 moved h p q = rw (p, q) h
 
--- ---- the list E, which was M, while an entry moves: as long, and with the same entries among the first n
-pub record Moving (M : List Entry) (n : ℕ) (E : List Entry) : Type 0 where
-  pub long : length E ≡ length M
-  pub contents : (w : Entry → ℕ) → total_weight w (entry_at E) n ≡ total_weight w (entry_at M) n
+-- ---- the lists N and G, which were M and F, while an entry moves: as long, and with the same entries among the first n
+pub record Moving (M : List ℕ) (F : List Float) (n : ℕ) (N : List ℕ) (G : List Float) : Type 0 where
+  pub nodes : length N ≡ length M
+  pub gaps : length G ≡ length F
+  pub contents : (w : Entry → ℕ) → total_weight w (entry_at N G) n ≡ total_weight w (entry_at M F) n
 
-pub moving : (M : List Entry) (n : ℕ) → Moving M n M
-moving M n = record { long = refl; contents = λ w. refl }
+pub moving : (M : List ℕ) (F : List Float) (n : ℕ) → Moving M F n M F
+moving M F n = record { nodes = refl; gaps = refl; contents = λ w. refl }
 
-pub move_on : {M E E' : List Entry} {n i j : ℕ} → Moving M n E → i < n → j < n → length E' ≡ length E → Swap (entry_at E) (entry_at E') i j → Moving M n E'
-move_on {n = n} H I J l S = record {
-  long = l ∙ H.long;
+pub move_on : {M N N' : List ℕ} {F G G' : List Float} {n i j : ℕ} → Moving M F n N G → i < n → j < n → N' ≡ exchanged 0 N i j → G' ≡ exchanged nan G i j → Swap (entry_at N G) (entry_at N' G') i j → Moving M F n N' G'
+move_on {n = n} H I J e d S = record {
+  nodes = ap length e ∙ (simp length-set) ∙ H.nodes;
+  gaps = ap length d ∙ (simp length-set) ∙ H.gaps;
   contents = λ w. total_swap w n S I J ∙ H.contents w;
 }
 
@@ -181,15 +183,15 @@ module _ {f : ℕ → Entry} {n i : ℕ} (R : Sinking f n i) where
       over k K e = moved (rw e at (R.ordered k K (λ z. omega (arith, at.0)))) (rw at.2 S.left) (S.rest k (λ z. omega (arith, at.0)) (λ z. omega (arith, at.0)))
 
 -- ---- one turn of each loop
-module _ {M E E' : List Entry} {n i : ℕ} (H : Moving M n E) (long : n ≤ length M) where
-  pub rise_turn : Rising (entry_at E) n i → i < n → rises (entry_at E) i ≡ true → E' ≡ swap E i (parent i) → length E' ≡ length E → Moving M n E' × Rising (entry_at E') n (parent i)
-  rise_turn R I t e l =
-      let up = rises_says (entry_at E) i t in
-      let S = exchanged_swap E i (parent i) e (omega (arith, H.long)) (omega (arith, H.long)) in
-      (move_on H I (omega arith) l S, rise_on R I up.0 up.1 S)
+module _ {M N N' : List ℕ} {F G G' : List Float} {n i : ℕ} (H : Moving M F n N G) (nodes : n ≤ length M) (gaps : n ≤ length F) where
+  pub rise_turn : Rising (entry_at N G) n i → i < n → rises (entry_at N G) i ≡ true → N' ≡ exchanged 0 N i (parent i) → G' ≡ exchanged nan G i (parent i) → Moving M F n N' G' × Rising (entry_at N' G') n (parent i)
+  rise_turn R I t e d =
+      let up = rises_says (entry_at N G) i t in
+      let S = exchanged_swap N G i (parent i) e d (omega (arith, H.nodes)) (omega (arith, H.gaps)) (omega (arith, H.nodes)) (omega (arith, H.gaps)) in
+      (move_on H I (omega arith) e d S, rise_on R I up.0 up.1 S)
 
-  pub sink_turn : (c : ℕ) → c ≡ least_child (entry_at E) n i → (c ≡ i → ⊥) → Sinking (entry_at E) n i → E' ≡ swap E i c → length E' ≡ length E → Moving M n E' × Sinking (entry_at E') n c
-  sink_turn c z a R e l =
+  pub sink_turn : (c : ℕ) → c ≡ least_child (entry_at N G) n i → (c ≡ i → ⊥) → Sinking (entry_at N G) n i → N' ≡ exchanged 0 N i c → G' ≡ exchanged nan G i c → Moving M F n N' G' × Sinking (entry_at N' G') n c
+  sink_turn c z a R e d =
       let at = least_place R (rw z at a) in
-      let S = exchanged_swap E i c e (omega (arith, H.long)) (omega (arith, H.long)) in
-      (move_on H (omega arith) (omega arith) l S, rw z (sink_on R (rw z at a) (rw z at S)))
+      let S = exchanged_swap N G i c e d (omega (arith, H.nodes)) (omega (arith, H.gaps)) (omega (arith, H.nodes)) (omega (arith, H.gaps)) in
+      (move_on H (omega arith) (omega arith) e d S, rw z (sink_on R (rw z at a) (rw z at S)))

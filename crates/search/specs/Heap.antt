@@ -1,16 +1,12 @@
--- A heap of entries in a list, and what push and pop do to one. Definitions only.
-use Rattle.std.specs.Prelude.{◌≡◌, List, ℕ, zero, suc, ◌+◌, ◌-◌, ◌/◌, ◌<◌, get_or}
+-- A heap of entries in two lists, and what push and pop do to one. Definitions only.
+use Rattle.std.specs.Prelude.{◌≡◌, List, ℕ, zero, suc, ◌+◌, ◌-◌, ◌/◌, ◌<◌, get_or, Float}
 use Rattle.std.specs.Float.{nan}
 use Rattle.search.specs.declared.Entry.{Entry}
 use Rattle.search.specs.Order.{◌≼◌}
 
--- what stands past the end of a list of entries
-abbrev pub no_entry : Entry
-no_entry = record { gap = nan; node = 0 }
-
--- the entry at place i of a list
-abbrev pub entry_at : List Entry → ℕ → Entry
-entry_at entries i = get_or entries i no_entry
+-- the entry at place i of the lists of nodes and gaps
+abbrev pub entry_at : List ℕ → List Float → ℕ → Entry
+entry_at nodes gaps i = record { gap = get_or gaps i nan; node = get_or nodes i 0 }
 
 -- the place above i; 0, the root, is its own
 abbrev pub parent : ℕ → ℕ

@@ -1,8 +1,21 @@
 -- How an entry moves to its place in a heap: up from the end, or down from the root. Definitions only.
-use Rattle.std.specs.Prelude.{◌≡◌, Bool, cond, ◌&&◌, ℕ, ◌+◌, ◌*◌, ◌<◌, ltb}
+use Rattle.std.specs.Prelude.{◌≡◌, Bool, cond, ◌&&◌, List, ℕ, ◌+◌, ◌*◌, ◌<◌, ltb, get_or, set, Float}
+use Rattle.std.specs.Float.{nan}
 use Rattle.search.specs.declared.Entry.{Entry}
 use Rattle.search.specs.Order.{entry_before, NumberGap, ◌≼◌}
 use Rattle.search.specs.Heap.{parent, Heaped, total_weight}
+
+-- the two lists of a heap
+pub record HeapLists : Type 0 where
+  pub nodes : List ℕ
+  pub gaps : List Float
+
+-- the list with what stands at i and j exchanged
+abbrev pub exchanged : {A : Type 0} → A → List A → ℕ → ℕ → List A
+exchanged d l i j = set (set l i (get_or l j d)) j (get_or l i d)
+
+abbrev pub exchanged_in : List ℕ → List Float → ℕ → ℕ → HeapLists
+exchanged_in N G i j = record { nodes = exchanged 0 N i j; gaps = exchanged nan G i j }
 
 -- the entry at i is before its parent
 unfoldable pub rises : (ℕ → Entry) → ℕ → Bool

@@ -136,10 +136,10 @@ fn look(view: &SetView, index: &IndexView, first: u32, count: u32, p: Point, sta
 }
 
 // The nodes first and first + 1 wait.
-fn wait_both(index: &IndexView, p: Point, first: u32, waiting: &mut Waiting)
+fn wait_both(index: &IndexView, p: Point, first: u32, waiting: &mut Waiting<512>)
     requires { (waiting.old.len + 1 < 512) × (first + 1 < 2 ^ 32) × (NumberGap (entry_for index.now.corners.now p first) × NumberGap (entry_for index.now.corners.now p (first + 1))) }
     ensures len { waiting.new.len ≡ waiting.old.len + 2 }
-    ensures opened { Opened (entry_at waiting.old.entries) waiting.old.len (entry_for index.now.corners.now p first) (entry_for index.now.corners.now p (first + 1)) (entry_at waiting.new.entries) }
+    ensures opened { Opened (entry_at waiting.old.nodes waiting.old.gaps) waiting.old.len (entry_for index.now.corners.now p first) (entry_for index.now.corners.now p (first + 1)) (entry_at waiting.new.nodes waiting.new.gaps) }
 {
     waiting.push(entry_for(index, first, p));
     waiting.push(entry_for(index, first + 1, p));
@@ -147,7 +147,7 @@ fn wait_both(index: &IndexView, p: Point, first: u32, waiting: &mut Waiting)
 
 // The nearest of the set's outlines, by a search of an index of it: the nodes that wait are in a heap, lent for
 // the search, and the search ends where the least gap is clearly above the best distance.
-pub fn search_in(view: &SetView, index: &IndexView, p: Point, waiting: &mut Waiting) -> Best
+pub fn search_in(view: &SetView, index: &IndexView, p: Point, waiting: &mut Waiting<512>) -> Best
     requires { Asked view.now.set.vertices.now view.now.set.counts.now view.now.starts.now p × Boxed (outlines_of view.now.set.vertices.now view.now.set.counts.now) view.now.boxes.now
         × Searched (outlines_of view.now.set.vertices.now view.now.set.counts.now) (buffer index.now.corners.now index.now.links.now index.now.items.now) × (0 < length view.now.set.counts.now) }
     ensures { result ≡ least_in (outlines_of view.now.set.vertices.now view.now.set.counts.now) p }

@@ -18,7 +18,7 @@ none_of : {n : ℕ} → n ≤ 0 → n ≡ 0
 none_of h = omega arith
 
 pub push-requires : goal.push-requires
-push-requires c = (rw c.clear.ensures (omega arith), rw c.entry_for.ensures (squares_number _ _))
+push-requires c = (search rules, (rw c.clear.ensures (omega arith), rw c.entry_for.ensures (squares_number _ _)))
 
 pub overflow_cast-view : goal.overflow_cast-view
 overflow_cast-view c =

@@ -10,8 +10,8 @@ use Rattle.search.proofs.search_in.Given as goal
 
 abbrev pub invariant-loop-e : goal.invariant-loop-e
 invariant-loop-e l =
-    Searching (buffer l.index.corners.now l.index.links.now l.index.items.now) most l.p (magnitude_at (outlines_of l.view.set.vertices.now l.view.set.counts.now) l.p) (length (outlines_of l.view.set.vertices.now l.view.set.counts.now)) (entry_at l.waiting.entries) l.waiting.len l.kept
+    Searching (buffer l.index.corners.now l.index.links.now l.index.items.now) most l.p (magnitude_at (outlines_of l.view.set.vertices.now l.view.set.counts.now) l.p) (length (outlines_of l.view.set.vertices.now l.view.set.counts.now)) (entry_at l.waiting.nodes l.waiting.gaps) l.waiting.len l.kept
 
 abbrev pub decreases-loop-e : goal.decreases-loop-e
 decreases-loop-e l =
-    total_weight (size_of (buffer l.index.corners.now l.index.links.now l.index.items.now) most l.p (magnitude_at (outlines_of l.view.set.vertices.now l.view.set.counts.now) l.p) (length (outlines_of l.view.set.vertices.now l.view.set.counts.now))) (entry_at l.waiting.entries) l.waiting.len
+    total_weight (size_of (buffer l.index.corners.now l.index.links.now l.index.items.now) most l.p (magnitude_at (outlines_of l.view.set.vertices.now l.view.set.counts.now) l.p) (length (outlines_of l.view.set.vertices.now l.view.set.counts.now))) (entry_at l.waiting.nodes l.waiting.gaps) l.waiting.len

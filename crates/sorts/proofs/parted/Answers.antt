@@ -9,5 +9,5 @@ use Rattle.sorts.proofs.parted.Goals as goal
 pub returns : goal.returns
 unfolding parted_by
 returns c =
-    let q = parted_is _ _ _ _ _ _ _ c.dealt-a.ensures c.requires c.copy_from_slice.ensures.after in
+    let q = parted_is _ _ _ _ _ _ _ c.dealt-a.ensures c.requires c.copied.ensures in
     ap₂ (λ (k : ℕ) (l : List ℕ). record { count = k; list = l }) q.1 q.0

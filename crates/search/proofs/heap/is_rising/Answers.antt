@@ -10,4 +10,4 @@ returns-then-i-eq0 c = rw (le-ltb 0 c.args.i (omega arith))
 
 pub returns : goal.returns
 unfolding rises
-returns c = rw (lt-ltb 0 c.args.i (omega arith), c.is_before.ensures)
+returns c = rw (lt-ltb 0 c.args.i (omega arith), c.is_before.ensures, c.entry_at-2.ensures, c.entry_at.ensures)

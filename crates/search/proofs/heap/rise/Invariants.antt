@@ -6,7 +6,7 @@ use Rattle.search.proofs.SiftLaws.{Moving}
 use Rattle.search.proofs.heap.rise.Given as goal
 
 abbrev pub invariant-loop-p : goal.invariant-loop-p
-invariant-loop-p l = (l.i ≤ l.last) × Moving l.initial.entries (l.last + 1) l.entries × Rising (entry_at l.entries) (l.last + 1) l.i
+invariant-loop-p l = (l.i ≤ l.last) × Moving l.initial.nodes l.initial.gaps (l.last + 1) l.nodes l.gaps × Rising (entry_at l.nodes l.gaps) (l.last + 1) l.i
 
 abbrev pub decreases-loop-p : goal.decreases-loop-p
 decreases-loop-p l = l.i

@@ -7,7 +7,7 @@ use Rattle.search.proofs.SiftLaws.{Moving}
 use Rattle.search.proofs.heap.sink.Given as goal
 
 abbrev pub invariant-loop-c : goal.invariant-loop-c
-invariant-loop-c l = (l.i ≤ l.n) × (l.c ≡ least_child (entry_at l.entries) l.n l.i) × Moving l.initial.entries l.n l.entries × Sinking (entry_at l.entries) l.n l.i
+invariant-loop-c l = (l.i ≤ l.n) × (l.c ≡ least_child (entry_at l.nodes l.gaps) l.n l.i) × Moving l.initial.nodes l.initial.gaps l.n l.nodes l.gaps × Sinking (entry_at l.nodes l.gaps) l.n l.i
 
 abbrev pub decreases-loop-c : goal.decreases-loop-c
 decreases-loop-c l = l.n - l.i

@@ -4,10 +4,11 @@ use Rattle.search.proofs.HeapLaws.{push_rising, pushed}
 use Rattle.search.proofs.heap.Waiting.push.Goals as goal
 
 pub rise-requires : goal.rise-requires
-rise-requires c =
+rise-requires g c =
     let s = c.args.self.now in
-    (omega arith, push_rising s.entries s.len c.args.entry (omega arith) s.heaped c.requires.1)
+    ((omega arith, omega arith), push_rising s.nodes s.gaps s.len c.args.entry (omega arith) (omega arith) s.heaped c.requires.1)
 
 pub returns-clause-pushed : goal.returns-clause-pushed
-returns-clause-pushed c =
-    pushed c.args.self.now.entries c.args.self.now.len c.args.entry (omega arith) c.rise.ensures
+returns-clause-pushed g c =
+    let s = c.args.self.now in
+    pushed s.nodes s.gaps s.len c.args.entry (omega arith) (omega arith) c.rise.ensures
