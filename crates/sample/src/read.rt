@@ -85,7 +85,7 @@ impl From<Word> for f64 {
 
 // What is still to be read of an input: what was read last holds the bytes from `at` up to `end`. (std's `Bytes` takes
 // twice as long: it asks the buffer for each byte by a call.)
-#[derive(Drop)]
+#[derive(Clone, Copy, Drop)]
 pub struct Reader<R> {
     input: R,
     bytes: [u8; 4096],
