@@ -6,7 +6,7 @@ use sample::answers::List;
 use std::io;
 use std::io::Write;
 
-// Buffers for an index, filled with ones.
+// Buffers for an index. They are made once, since a struct of arrays is made by copying.
 #[derive(Clone, Copy)]
 pub struct Index {
     pub corners: [f64; 2044],
@@ -22,11 +22,18 @@ impl Index {
             items: [1; 1024],
         }
     }
+
+    // Ones everywhere, as each call gets them.
+    pub fn fill(&mut self) {
+        self.corners.fill(1.0);
+        self.links.fill(1);
+        self.items.fill(1);
+    }
 }
 
 // Of an accepted call the answer has the nodes and items.
-pub fn build<W: Write>(to: &mut W, v: &[f64]) -> io::Result<()> {
-    let mut index = Index::new();
+pub fn build<W: Write>(to: &mut W, v: &[f64], index: &mut Index) -> io::Result<()> {
+    index.fill();
     let mut nodes = 9;
     let mut items = 9;
     let number = viskunor::indexes::vk_index_build(
@@ -43,8 +50,13 @@ pub fn build<W: Write>(to: &mut W, v: &[f64]) -> io::Result<()> {
     writeln!(to, "{number:x} {nodes:x} {items:x}{corners}{links}{list}")
 }
 
-pub fn meeting<W: Write>(to: &mut W, v: &[f64], cell: Cell) -> io::Result<()> {
-    let mut index = Index::new();
+pub fn meeting<W: Write>(
+    to: &mut W,
+    v: &[f64],
+    cell: Cell,
+    index: &mut Index,
+) -> io::Result<()> {
+    index.fill();
     let mut list = [1; 1024];
     let mut count = 9;
     let number = viskunor::indexes::vk_index_meeting(

@@ -13,16 +13,18 @@ mod sets;
 mod streams;
 
 use arguments::{Cell, Lent, Point};
+use indexes::Index;
 use operation::{Operation, Query, UnknownName};
 use sample::read::Reader;
 use std::io;
-use std::io::{BufReader, BufWriter, Read, Write};
+use std::io::{BufWriter, Read, Write};
 
 // Makes the call that the name stands for; its arguments are what the reader has next.
 fn answer<R: Read + Drop, W: Write>(
     name: &[u8],
     input: &mut Reader<R>,
     to: &mut W,
+    index: &mut Index,
 ) -> io::Result<()> {
     match Operation::try_from(name) {
         Ok(Operation::Sqrt) => numbers::sqrt(to, input.value()),
@@ -39,7 +41,7 @@ fn answer<R: Read + Drop, W: Write>(
         Ok(Operation::Of(query)) => {
             let mut floats = [0.0; 64];
             let v = input.list(&mut floats);
-            ask(query, v, input, to)
+            ask(query, v, input, to, index)
         }
         Err(UnknownName) => {
             let mut floats = [0.0; 64];
@@ -55,9 +57,9 @@ fn ask<R: Read + Drop, W: Write>(
     v: &[f64],
     input: &mut Reader<R>,
     to: &mut W,
+    index: &mut Index,
 ) -> io::Result<()> {
     let mut counts = [0; 16];
-    let mut points = [0.0; 520];
     match query {
         Query::Area => outlines::area(to, v),
         Query::Perimeter => outlines::perimeter(to, v),
@@ -68,13 +70,14 @@ fn ask<R: Read + Drop, W: Write>(
         Query::Make => outlines::make(to, v, Lent::read(input)),
         Query::Fill => outlines::fill(to, v, Cell::read(input), Lent::read(input)),
         Query::Ellipse => outlines::ellipse(to, v),
-        Query::Build => indexes::build(to, v),
-        Query::Meeting => indexes::meeting(to, v, Cell::read(input)),
-        Query::AnyAt => sets::any_at(to, v, input.list(&mut counts), Point::read(input)),
-        Query::Nearest => sets::nearest(to, v, input.list(&mut counts), Point::read(input)),
+        Query::Build => indexes::build(to, v, index),
+        Query::Meeting => indexes::meeting(to, v, Cell::read(input), index),
+        Query::AnyAt => sets::any_at(to, v, input.list(&mut counts), Point::read(input), index),
+        Query::Nearest => sets::nearest(to, v, input.list(&mut counts), Point::read(input), index),
         Query::NearestMany => {
+            let mut points = [0.0; 520];
             let counts = input.list(&mut counts);
-            sets::nearest_many(to, v, counts, input.list(&mut points), input.value())
+            sets::nearest_many(to, v, counts, input.list(&mut points), input.value(), index)
         }
     }
 }
@@ -82,11 +85,12 @@ fn ask<R: Read + Drop, W: Write>(
 // A proved loop has to end, and nothing says that the input does: so this loop counts to a number that no
 // run reaches.
 fn main(rt: HostRuntime) -> io::Result<()> {
-    let mut input = Reader::new(BufReader::new(rt.alloc(), rt.stdin())?);
+    let mut input = Reader::new(rt.stdin());
     let mut to = BufWriter::new(rt.alloc(), rt.stdout())?;
+    let mut index = Index::new();
     for _ in 0..u64::MAX {
         let Some(name) = input.word() else { break };
-        answer(name.name(), &mut input, &mut to)?;
+        answer(name.name(), &mut input, &mut to, &mut index)?;
     }
     to.flush()
 }

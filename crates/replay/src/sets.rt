@@ -8,8 +8,8 @@ use sample::floats::Bits;
 use std::io;
 use std::io::Write;
 
-pub fn any_at<W: Write>(to: &mut W, v: &[f64], counts: &[u32], p: Point) -> io::Result<()> {
-    let mut index = Index::new();
+pub fn any_at<W: Write>(to: &mut W, v: &[f64], counts: &[u32], p: Point, index: &mut Index) -> io::Result<()> {
+    index.fill();
     let mut any = 9;
     let number = viskunor::sets::vk_set_any_at(
         v,
@@ -24,8 +24,8 @@ pub fn any_at<W: Write>(to: &mut W, v: &[f64], counts: &[u32], p: Point) -> io::
     writeln!(to, "{number:x} {any:x}")
 }
 
-pub fn nearest<W: Write>(to: &mut W, v: &[f64], counts: &[u32], p: Point) -> io::Result<()> {
-    let mut index = Index::new();
+pub fn nearest<W: Write>(to: &mut W, v: &[f64], counts: &[u32], p: Point, index: &mut Index) -> io::Result<()> {
+    index.fill();
     let mut found = 9;
     let mut outline = 9;
     let mut distance = 1.0;
@@ -52,8 +52,9 @@ pub fn nearest_many<W: Write>(
     counts: &[u32],
     points: &[f64],
     short: u64,
+    index: &mut Index,
 ) -> io::Result<()> {
-    let mut index = Index::new();
+    index.fill();
     let mut outlines = [9; 264];
     let mut distances = [1.0; 264];
     let outlines = &mut outlines[..if short == 1 { 255 } else { 264 }];

@@ -4,7 +4,7 @@ ghost use lib.Ieee.{of_bits, binary64};
 ghost use Rattle.sample.specs.Digits.{digit_of};
 
 use crate::floats;
-use std::io::{Bytes, Read};
+use std::io::Read;
 
 // A run of bytes without spaces and line ends, read in two ways: as a name, its last eight bytes, and as a
 // number, its last sixteen digits in base 16. One of no bytes stands for a word that is missing.
@@ -36,8 +36,8 @@ impl Word {
         ensures number { self.new.number ≡ self.old.number % 2 ^ 60 * 16 + digit_of byte }
         ensures some { 0 < self.new.len }
     {
-        self.last.rotate_left(1);
-        self.last[7] = byte;
+        let [_, a, b, c, d, e, f, g] = self.last;
+        self.last = [a, b, c, d, e, f, g, byte];
         self.len = self.len.saturating_add(1);
         self.number = self.number % 0x1000_0000_0000_0000 * 16 + digit(byte);
     }
@@ -83,28 +83,50 @@ impl From<Word> for f64 {
     }
 }
 
-// What is still to be read of an input.
-#[derive(Drop)]
+// What is still to be read of an input: what was read last holds the bytes from `at` up to `end`. (std's `Bytes` takes
+// twice as long: it asks the buffer for each byte by a call.)
+#[derive(Clone, Copy, Drop)]
 pub struct Reader<R> {
-    bytes: Bytes<R>,
+    input: R,
+    bytes: [u8; 4096],
+    at: usize,
+    end: usize,
 }
 
 impl<R: Read + Drop> Reader<R> {
     pub fn new(input: R) -> Self {
         Reader {
-            bytes: input.bytes(),
+            input,
+            bytes: [0; 4096],
+            at: 0,
+            end: 0,
         }
     }
 
-    // The next word, unless the input has ended. A read that fails counts as the end.
+    // The next byte, unless the input has ended. A read that fails counts as the end.
+    fn byte(&mut self) -> Option<u8> {
+        if self.end <= self.at {
+            self.end = self.input.read(&mut self.bytes).unwrap_or(0);
+            self.at = 0;
+        }
+        if self.at < self.end && self.at < self.bytes.len() {
+            let byte = self.bytes[self.at];
+            self.at += 1;
+            return Some(byte);
+        }
+        None
+    }
+
+    // The next word, unless the input has ended. Nothing says that the input ends: the loop counts to a number that no
+    // input reaches.
     pub fn word(&mut self) -> Option<Word>
         ensures { IfSome result (λ word. 0 < word.len) }
     {
         let mut word: Option<Word> = None;
-        for byte in &mut self.bytes {
-            match byte {
-                Ok(b) if b > b' ' => word.get_or_insert_default().push(b),
-                Ok(_) if word.is_none() => {}
+        for _ in 0..u64::MAX {
+            match self.byte() {
+                Some(b) if b > b' ' => word.get_or_insert_default().push(b),
+                Some(_) if word.is_none() => {}
                 _ => break,
             }
         }

@@ -2,5 +2,5 @@
 use Rattle.std.proofs.Common.{◌<◌, IfSome}
 use Rattle.sample.proofs.read.Reader.word.Given as goal
 
-abbrev pub invariant-loop-byte : goal.invariant-loop-byte
-invariant-loop-byte g l = IfSome l.word (λ word. 0 < word.len)
+abbrev pub invariant-loop : goal.invariant-loop
+invariant-loop g l = IfSome l.word (λ word. 0 < word.len)
