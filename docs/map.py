@@ -112,7 +112,7 @@ def read_code(crate, path):
         end = closing(text, at)
         item = Item(crate, path.relative_to(ROOT), text.count('\n', 0, m.start()) + 1, m[3],
                     'export' if m[2] else 'fn', text[start or at:at], text[at:end])
-        owner = re.findall(r'^impl (\w+)', text[:m.start()], re.M) if m[1] else []
+        owner = re.findall(r'^impl(?:<[^>]*>)? (\w+)', text[:m.start()], re.M) if m[1] else []
         item.owner = owner[-1] if owner else ''
         items.append(item)
     return items, imports_of(text), paths_of(text)
@@ -157,7 +157,8 @@ class Sources:
                         self.methods.setdefault(item.name, []).append(item)
                     own = ROOT / 'crates' / crate / 'proofs'
                     for folder in [own.joinpath(*module), own]:
-                        for proof in [p for name in PROOFS for p in sorted(folder.glob('*/' + name))]:
+                        owned = f'*{item.owner}/' if item.owner else ''     # a method's lies in the folder of its type or impl
+                        for proof in [p for name in PROOFS for p in sorted(folder.glob(owned + '*/' + name))]:
                             if item.name in proof.parent.name.split('+'):
                                 item.proof = item.proof or proof.relative_to(ROOT)
                 files.append((crate, 'src', module, items, imports, paths))
