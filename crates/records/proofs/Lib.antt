@@ -6,3 +6,5 @@ pub mod RecordLaws
 pub mod OfferLaws
 -- A local array in memory.
 pub mod LocalArray
+-- The machine value of a number, a count and 511 node records side by side.
+pub mod RecordingIs
