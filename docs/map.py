@@ -16,10 +16,11 @@ import sys
 
 ROOT = pathlib.Path(__file__).resolve().parent.parent
 NAME = r"[^\s(){};,.\[\]⌜⌝]+"
-DEEP = 3                       # how many steps below a promise definitions are named
-CALLS = 3                      # how many calls below an export functions are named: viskunor's own, and two more
+DEEP = 5                       # how many steps below a promise definitions are named
+CALLS = 4                      # how many calls below an export functions are named: viskunor's own, and three more
 GENERAL = {'count_fields', 'measure_fields', 'box_fields', 'distance_fields', 'buffer', 'cell_of', 'distance_of'}
 PROOFS = ['Proof.antt', 'Answers.antt', 'Invariants.antt']    # what is written of a function's proof; the first is linked
+NUMBERS = ('accept', 'refusals', 'from')      # the function that gives a refusal's number
 THEOREM_PAGES = ['README.md', 'docs/DEMAND-1.md', 'docs/DEMAND-2.md']
 
 
@@ -111,7 +112,7 @@ def read_code(crate, path):
         end = closing(text, at)
         item = Item(crate, path.relative_to(ROOT), text.count('\n', 0, m.start()) + 1, m[3],
                     'export' if m[2] else 'fn', text[start or at:at], text[at:end])
-        owner = re.findall(r'^impl (\w+)', text[:m.start()], re.M) if m[1] else []
+        owner = re.findall(r'^impl(?:<[^>]*>)? (\w+)', text[:m.start()], re.M) if m[1] else []
         item.owner = owner[-1] if owner else ''
         items.append(item)
     return items, imports_of(text), paths_of(text)
@@ -151,12 +152,13 @@ class Sources:
                 items, imports, paths = read_code(crate, path)
                 module = tuple(p for p in path.relative_to(base).with_suffix('').parts if p not in ('lib', 'main'))
                 for item in items:
-                    self.functions[(crate,) + module + (item.name,)] = item
+                    self.functions.setdefault((crate,) + module + (item.name,), item)
                     if item.owner:
-                        self.methods[item.name] = item
+                        self.methods.setdefault(item.name, []).append(item)
                     own = ROOT / 'crates' / crate / 'proofs'
                     for folder in [own.joinpath(*module), own]:
-                        for proof in [p for name in PROOFS for p in sorted(folder.glob('*/' + name))]:
+                        owned = f'*{item.owner}/' if item.owner else ''     # a method's lies in the folder of its type or impl
+                        for proof in [p for name in PROOFS for p in sorted(folder.glob(owned + '*/' + name))]:
                             if item.name in proof.parent.name.split('+'):
                                 item.proof = item.proof or proof.relative_to(ROOT)
                 files.append((crate, 'src', module, items, imports, paths))
@@ -164,6 +166,7 @@ class Sources:
             known = {n: self.table.get(w + (n,)) for n, w in imports.items()}
             if part != 'src':
                 known.update({k[3]: v for k, v in self.table.items() if k[:3] == (crate, part, module)})
+            known.update({n.split('◌')[1]: v for n, v in known.items() if n.startswith('◌')})    # its word between arguments
             for item in items:
                 law = part != 'src' and item.kind == 'law'
                 words = re.findall(NAME, item.says if law else item.head if part == 'src' else item.head + ' ' + item.body)
@@ -180,11 +183,16 @@ class Sources:
                 parts = paths[parts[0]] + parts[1:]
             if parts[0] == 'crate':
                 parts = [crate] + parts[1:]
+            if re.fullmatch('[A-Z]', parts[0]):
+                parts = parts[1:]      # a type parameter's: what its trait asks for
             options = [tuple(parts), (crate,) + tuple(parts), (crate,) + module + tuple(parts)]
             hit = next((self.functions[o] for o in options if o in self.functions), None)
-            hit = hit or (self.methods.get(parts[-1]) if len(parts) == 1 and '.' + call + '(' in item.body else None)
+            methods = self.methods.get(call, []) if '.' + call + '(' in item.body else []
+            hit = hit or next((m for m in methods if m.crate == crate), methods[0] if methods else None)
             if hit and hit is not item and hit not in found:
                 found.append(hit)
+        if re.search(r'\bErr\((\w+)\) => .*\bu32::from\(\1\)', item.body):
+            found.append(self.functions[NUMBERS])
         return found
 
     def theorems(self):
@@ -277,10 +285,10 @@ def tests_part(sources):
                 continue
             for when in re.findall(rf'refusing {refusal} when (.*)', item.body):
                 said.append(f'{item.link()}: `{condition(when)}`')
-            if re.search(rf'\((?:Failed|Refused) {refusal}\)', item.body) and 'refusing ' + refusal not in item.body:
+            if re.search(rf'\(Err {refusal}\)', item.body) and 'refusing ' + refusal not in item.body:
                 said.append(item.link())
         for item in dict.fromkeys(sources.functions.values()):
-            if re.search(rf'Refusal::{refusal}\b', item.body) and item.name != 'number_of':
+            if re.search(rf'Refusal::{refusal}\b', item.body) and item is not sources.functions[NUMBERS]:
                 made.append(f'{item.link()} ({"/".join(item.path.parts[1:])}), {proof_of(item)}')
         lines.append(f'| {n} | {refusal} | {"; ".join(dict.fromkeys(said))} | {"; ".join(made)} |')
     return lines
@@ -329,8 +337,8 @@ def page(sources):
     lines = ['# Map', '',
              'From each call to its promise, its code and its proof; written by `docs/map.py` from the sources. A promise is the',
              "`ensures` at the export; the definitions that it cites stand in `specs/` of the crates, the functions in `src/`, the proofs in",
-             '`proofs/`. Functions are named to three calls below the export, the first of which is that of the crate `viskunor`, definitions to',
-             'three steps below the promise. A function whose proof the prover finds by itself has no file.', '',
+             '`proofs/`. Functions are named to four calls below the export, the first of which is that of the crate `viskunor`, definitions to',
+             'five steps below the promise. A function whose proof the prover finds by itself has no file.', '',
              '![The crates by layer](crates.svg)', '',
              '## Tests', '']
     lines += tests_part(sources) + ['', '## Calls', '']

@@ -180,7 +180,7 @@ fn kept_count(v: &[f64]) -> usize
 }
 
 // Which of n vertices is written at i: from the last to the first where `back` is set.
-fn source(back: bool, n: usize, i: usize) -> usize
+pub fn source(back: bool, n: usize, i: usize) -> usize
     requires { i < n }
     ensures { (result ≡ cond back (n - 1 - i) i) × (result < n) }
 {

@@ -16,9 +16,9 @@ use Rattle.lists.proofs.MemberLaws.{any_each}
 use Rattle.boundary.specs.Outline.{count, vertices, edges}
 use Rattle.boundary.proofs.OutlineLaws.{length_vertices}
 use Rattle.accept.specs.declared.Refusal.{Refusal}
-use Rattle.accept.specs.declared.Refusal.TheVariants.{BeyondReach}
+use Rattle.accept.specs.declared.Refusal.TheVariants.{TooFew, TooMany, BeyondReach}
 use Rattle.accept.specs.Area.{area_of}
-use Rattle.accept.specs.Refusals.{count_tested, Test, all_passed, ◌refusing◌when◌, given, not_finite, outside_field, equal_neighbours, negative_area, values_tested, shape_tested}
+use Rattle.accept.specs.Refusals.{count_tested, Test, all_passed, ◌refusing◌when◌, given, not_finite, outside_field, equal_neighbours, negative_area, size_tested, values_tested, shape_tested}
 use Rattle.accept.specs.Verdicts.{edges_verdict}
 use Rattle.accept.proofs.TestLaws.{refusing_passed, both_passed}
 use Rattle.geometry.specs.Making.{closed, kept, turned, made_of}
@@ -48,6 +48,13 @@ pub grid_tested : (v : List Float) → eqb (length v % 2) 1 ≡ false → ltb (c
     → edges_verdict (equal_neighbours v) (area_of (edges v)) ≡ given (shape_tested v) (Ok (area_of (edges v))) Err
 unfolding shape_tested count_tested given
 grid_tested v e l h g = rw (e, l, h) (grid_values v g)
+
+-- 3 and 4 are passed
+pub size_passed : (n : ℕ) → size_tested n ≡ all_passed → (ltb n 3 ≡ false) × (ltb 4096 n ≡ false)
+unfolding size_tested
+size_passed n e =
+    let few = refusing_passed (all_passed refusing TooFew when ltb n 3) TooMany (ltb 4096 n) e in
+    ((refusing_passed all_passed TooFew (ltb n 3) few.0).1, few.1)
 
 -- those that follow the record: where a step is beyond the reach, and where none is
 module _ (zs : List ℤ) where
