@@ -16,7 +16,7 @@ use Rattle.clip.specs.declared.HalfPlane.{HalfPlane}
 use Rattle.clip.specs.declared.Marks.{Marks}
 use Rattle.clip.specs.declared.FirstPass.{FirstPass}
 use Rattle.clip.specs.declared.FirstPass.TheVariants.{StartsAt, AllKept, NoneKept}
-use Rattle.clip.specs.Passes.{marks_between, marks_of, comes_in, start_line}
+use Rattle.clip.specs.Passes.{marks_between, marks_of, comes_in, start_line, last_end_kept}
 use Rattle.clip.specs.Lent.{line_at}
 
 -- the marks of a line, from the column of its coordinate
@@ -53,27 +53,36 @@ start_le s b (e ∷ es) = by (comes_in b (marks_of s e)) _ _ (start_le s (marks_
 
 -- ---- the answer: the line that comes in, the j-th of m, or that none does, where k is the mark of all parts
 abbrev told : ℕ → ℕ → Bool → FirstPass
-told j m k = cond (ltb j m) (StartsAt j) (cond k AllKept NoneKept)
+told j m k = cond (ltb j m) (StartsAt j k) (cond k AllKept NoneKept)
 
 module _ (j m : ℕ) (k : Bool) where
-  pub tells_start : (i : ℕ) → j ≡ i → i < m → StartsAt i ≡ told j m k
+  pub tells_start : (i : ℕ) → j ≡ i → i < m → StartsAt i k ≡ told j m k
   tells_start i e l = rw (e, lt-ltb i m l)
 
   pub tells_none : m ≤ j → cond k AllKept NoneKept ≡ told j m k
   tells_none l = rw (le-ltb j m l)
 
-  pub start_told : (i : ℕ) → told j m k ≡ StartsAt i → (j ≡ i) × (j < m)
-  start_told i = by (ltb j m) refl k
+  pub start_told : (i : ℕ) (d : Bool) → told j m k ≡ StartsAt i d → (j ≡ i) × (k ≡ d) × (j < m)
+  start_told i d = by (ltb j m) refl k
     where
-      by : (b : Bool) → ltb j m ≡ b → (c : Bool) → cond b (StartsAt j) (cond c AllKept NoneKept) ≡ StartsAt i → (j ≡ i) × (j < m)
-      by true l c e = (cc, ltb-true j m l)
+      by : (b : Bool) → ltb j m ≡ b → (c : Bool) → cond b (StartsAt j c) (cond c AllKept NoneKept) ≡ StartsAt i d → (j ≡ i) × (c ≡ d) × (j < m)
+      by true l c e = (cc, cc, ltb-true j m l)
       by false l true e = absurd (cc)
       by false l false e = absurd (cc)
+
+  -- whether the last line's end is kept is told in each case
+  pub end_told : last_end_kept (told j m k) ≡ k
+  end_told = by (ltb j m) k
+    where
+      by : (b c : Bool) → last_end_kept (cond b (StartsAt j c) (cond c AllKept NoneKept)) ≡ c
+      by true c = refl
+      by false true = refl
+      by false false = refl
 
   pub all_told : told j m k ≡ AllKept → (m ≤ j) × (k ≡ true)
   all_told = by (ltb j m) refl k
     where
-      by : (b : Bool) → ltb j m ≡ b → (c : Bool) → cond b (StartsAt j) (cond c AllKept NoneKept) ≡ AllKept → (m ≤ j) × (c ≡ true)
+      by : (b : Bool) → ltb j m ≡ b → (c : Bool) → cond b (StartsAt j c) (cond c AllKept NoneKept) ≡ AllKept → (m ≤ j) × (c ≡ true)
       by true l c e = absurd (cc)
       by false l true e = (ltb-false j m l, refl)
       by false l false e = absurd (cc)
@@ -81,7 +90,7 @@ module _ (j m : ℕ) (k : Bool) where
   pub none_told : told j m k ≡ NoneKept → (m ≤ j) × (k ≡ false)
   none_told = by (ltb j m) refl k
     where
-      by : (b : Bool) → ltb j m ≡ b → (c : Bool) → cond b (StartsAt j) (cond c AllKept NoneKept) ≡ NoneKept → (m ≤ j) × (c ≡ false)
+      by : (b : Bool) → ltb j m ≡ b → (c : Bool) → cond b (StartsAt j c) (cond c AllKept NoneKept) ≡ NoneKept → (m ≤ j) × (c ≡ false)
       by true l c e = absurd (cc)
       by false l true e = absurd (cc)
       by false l false e = (ltb-false j m l, refl)

@@ -10,7 +10,7 @@ use Rattle.clip.specs.declared.HalfPlane.{HalfPlane}
 use Rattle.clip.specs.declared.FirstPass.{FirstPass}
 use Rattle.clip.specs.declared.FirstPass.TheVariants.{StartsAt, AllKept, NoneKept}
 use Rattle.clip.specs.Clip.{parts, clip_of}
-use Rattle.clip.specs.Passes.{first_pass_of, traced}
+use Rattle.clip.specs.Passes.{first_pass_of, last_end_kept, traced}
 use Rattle.clip.specs.Lent.{room_of, line_in, lines_from, place_of, Holds}
 use Rattle.clip.proofs.StageLaws.{place_le, all_parts_kept, none_kept_lem, last_out, starts_below, some_dropped, clip_traced}
 use Rattle.clip.proofs.LentLaws.{part_lines, slice_at}
@@ -92,18 +92,18 @@ module _ (w : List Float) (from n : ℕ) (l : from + 4 * n ≤ length w) where
     found_none e = rw same_lines at (none_kept_lem s (line_in part 0) (room_of part) some_part e)
 
     pub found_out : found ≡ NoneKept → any (λ p. not p.kept) (parts s (lines_from w from 0 n)) ≡ true
-    found_out e = rw same_lines at (last_out s (line_in part 0) (room_of part) some_part e)
+    found_out e = rw same_lines at (last_out s (line_in part 0) (room_of part) some_part (ap last_end_kept e))
 
-    module _ (i : ℕ) (e : found ≡ StartsAt i) where
+    module _ (i : ℕ) (b : Bool) (e : found ≡ StartsAt i b) where
       pub found_below : i < n
-      found_below = rw room_part at (starts_below s (line_in part 0) (room_of part) some_part i e)
+      found_below = rw room_part at (starts_below s (line_in part 0) (room_of part) some_part i b e)
 
       pub found_dropped : any (λ p. not p.kept) (parts s (lines_from w from 0 n)) ≡ true
-      found_dropped = rw same_lines at (some_dropped s (line_in part 0) (room_of part) some_part i e)
+      found_dropped = rw same_lines at (some_dropped s (line_in part 0) (room_of part) some_part i b e)
 
       pub found_traced : clip_of s (lines_from w from 0 n) ≡ traced s (lines_from w from i (n - i)) (lines_from w from 0 i)
       found_traced =
           let k = found_below in
           let before = lines_part 0 i (omega arith) in
           let after = lines_part i (n - i) (omega arith) in
-          rw (same_lines, room_part, before, after) at (clip_traced s (line_in part 0) (room_of part) some_part i e)
+          rw (same_lines, room_part, before, after) at (clip_traced s (line_in part 0) (room_of part) some_part i b e)

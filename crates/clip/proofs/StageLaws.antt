@@ -15,9 +15,9 @@ use Rattle.clip.specs.declared.HalfPlane.{HalfPlane}
 use Rattle.clip.specs.declared.FirstPass.TheVariants.{StartsAt, AllKept, NoneKept}
 use Rattle.clip.specs.declared.Stored.{Stored}
 use Rattle.clip.specs.Clip.{parts, last_kept, clip_of}
-use Rattle.clip.specs.Passes.{marks_of, start_line, first_pass_of, traced}
+use Rattle.clip.specs.Passes.{marks_of, start_line, first_pass_of, last_end_kept, traced}
 use Rattle.clip.specs.Lent.{Holds, place_of, Stage}
-use Rattle.clip.proofs.FirstPassLaws.{start_le, start_told, all_told, none_told}
+use Rattle.clip.proofs.FirstPassLaws.{start_le, start_told, end_told, all_told, none_told}
 use Rattle.clip.proofs.PassLaws.{no_entry_out, no_entry_kept, first_entry, traced_rotated, last_line, last_dropped, clip_all, clip_some, clip_none}
 
 -- ---- the halves
@@ -46,8 +46,12 @@ module _ (s : HalfPlane) (g : ℕ → Edge) (n : ℕ) (l : 1 ≤ n) where
       let z : 0 + (n - 1) ≡ n - 1 = omega arith in
       ap (run g 0) k ∙ rw (run_last g 0 (n - 1), z)
 
+  -- whether the last part is kept is told, whether a line comes in or not
   last_is : last_kept (parts s es) ≡ kept
   last_is = ap (λ es. last_kept (parts s es)) by_last ∙ last_line s (run g 0 (n - 1)) (g (n - 1))
+
+  pub last_told : last_kept (parts s es) ≡ last_end_kept (first_pass_of s (g (n - 1)) es)
+  last_told = last_is ∙ sym (end_told start (length es) kept)
 
   all_looked_at : length es ≤ start → start ≡ length es
   all_looked_at h = let k = start_le s kept es in omega arith
@@ -66,29 +70,29 @@ module _ (s : HalfPlane) (g : ℕ → Edge) (n : ℕ) (l : 1 ≤ n) where
   out_at_last : kept ≡ false → any (λ p. not p.kept) (parts s es) ≡ true
   out_at_last k = rw by_last (last_dropped s (run g 0 (n - 1)) (g (n - 1)) k)
 
-  pub last_out : first_pass_of s (g (n - 1)) es ≡ NoneKept → any (λ p. not p.kept) (parts s es) ≡ true
-  last_out e = out_at_last (none_told start (length es) kept e).1
+  pub last_out : last_end_kept (first_pass_of s (g (n - 1)) es) ≡ false → any (λ p. not p.kept) (parts s es) ≡ true
+  last_out e = out_at_last (sym (end_told start (length es) kept) ∙ e)
 
   -- one does
-  module _ (i : ℕ) (e : first_pass_of s (g (n - 1)) es ≡ StartsAt i) where
-    comes : (start ≡ i) × (start < length es)
-    comes = start_told start (length es) kept i e
+  module _ (i : ℕ) (b : Bool) (e : first_pass_of s (g (n - 1)) es ≡ StartsAt i b) where
+    comes : (start ≡ i) × (kept ≡ b) × (start < length es)
+    comes = start_told start (length es) kept i b e
 
     pub starts_below : i < n
-    starts_below = omega (arith, comes.0, comes.1, length_run g 0 n)
+    starts_below = omega (arith, comes.0, comes.2, length_run g 0 n)
 
     pub some_dropped : any (λ p. not p.kept) (parts s es) ≡ true
     some_dropped = by kept refl
       where
         by : (b : Bool) → kept ≡ b → any (λ p. not p.kept) (parts s es) ≡ true
-        by true k = (first_entry s kept es comes.1).1 k
+        by true k = (first_entry s kept es comes.2).1 k
         by false k = out_at_last k
 
     -- the path that the second pass writes is the clip
     pub clip_traced : clip_of s es ≡ traced s (run g i (n - i)) (run g 0 i)
     clip_traced =
         let m : i ≤ n = let k = starts_below in omega arith in
-        clip_some s es some_dropped (first_entry s kept es comes.1).0
+        clip_some s es some_dropped (first_entry s kept es comes.2).0
         ∙ sym (traced_rotated s es kept last_is)
         ∙ rw (comes.0, drop_run g i n m, take_run g i n m)
 

@@ -38,9 +38,12 @@ pub record Tracks (to room : ℕ) (w : List Float) (s : State) (t : Path) : Type
   pub ends : s.ends ≡ t.ends
   pub held : Holds to room w s.at t.out
 
--- ---- the two halves of a list, of `half` lines each: the most that fit twice
+-- ---- the two halves of a list of `room` numbers, of `half` lines each: the most that fit twice
+abbrev pub half_of : ℕ → ℕ
+half_of room = room / 8
+
 abbrev pub half_in : List Float → ℕ
-half_in w = length w / 8
+half_in w = half_of (length w)
 
 -- where a half starts
 abbrev pub place_of : ℕ → Bool → ℕ

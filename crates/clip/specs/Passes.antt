@@ -75,7 +75,13 @@ abbrev pub first_pass_of : HalfPlane → Edge → List Edge → FirstPass
 first_pass_of s last es =
     let kept = (marks_of s last).end_kept in
     let start = start_line s kept es in
-    cond (ltb start (length es)) (StartsAt start) (cond kept AllKept NoneKept)
+    cond (ltb start (length es)) (StartsAt start kept) (cond kept AllKept NoneKept)
+
+-- whether the end of the last line is kept, which the answer tells in each case
+abbrev pub last_end_kept : FirstPass → Bool
+last_end_kept (StartsAt start kept) = kept
+last_end_kept AllKept = true
+last_end_kept NoneKept = false
 
 -- ---- the second pass
 -- a path: where it starts and ends, if it has begun, and its lines

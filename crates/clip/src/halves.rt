@@ -42,7 +42,7 @@ fn clip_some(w: &mut [f64], c: Stored, s: HalfPlane) -> Stored
     match scan::first_pass(&w[from..from + 4 * n], s) {
         FirstPass::AllKept => c,
         FirstPass::NoneKept => Stored { second, n: 0 },
-        FirstPass::StartsAt(start) => Stored {
+        FirstPass::StartsAt { start, .. } => Stored {
             second: !second,
             n: retrace(w, c, s, start),
         },

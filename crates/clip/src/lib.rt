@@ -25,11 +25,11 @@ pub struct Marks {
     pub end_kept: bool,
 }
 
-// What the first pass finds: the number of the first line that comes in, where the path starts; or that none
-// comes in, since all parts are kept or none is.
+// What the first pass finds: the number of the first line that comes in, where the path starts, and whether the end of
+// the last line is kept; or that none comes in, since all parts are kept or none is.
 #[derive(Clone, Copy)]
 pub enum FirstPass {
-    StartsAt(usize),
+    StartsAt { start: usize, kept: bool },
     AllKept,
     NoneKept,
 }

@@ -1,7 +1,7 @@
 // The parts of a line, and which of them are inside.
 ghost use Rattle.std.specs.Prelude.{◌≡◌};
 ghost use Rattle.clip.specs.Clip.{point_along, coord_of, in_half_plane};
-ghost use Rattle.clip.specs.Passes.{coord_inside, cut_at, mark_at, uncut_of, marks_between, marks_of, before_cut, after_cut};
+ghost use Rattle.clip.specs.Passes.{coord_inside, cut_at, mark_at, uncut_of, marks_between, marks_of, first_part, last_part};
 
 use crate::{HalfPlane, Marks};
 use boundary::line::along;
@@ -96,22 +96,28 @@ fn point_at(e: Edge, u: f64) -> Point
     }
 }
 
-// The first part of a line that is cut at u.
-pub fn first(e: Edge, u: f64) -> Edge
-    ensures { result ≡ before_cut e u }
+// The first part of a line; the line itself where it is not cut.
+#[tactic(auto, unfolding(crate::specs::Passes::first_part))]
+pub fn first(m: Marks, e: Edge) -> Edge
+    ensures { result ≡ first_part m e }
 {
-    Edge {
-        a: point_at(e, 0.0),
-        b: point_at(e, u),
+    match m.cut {
+        None => e,
+        Some(u) => Edge {
+            a: point_at(e, 0.0),
+            b: point_at(e, u),
+        },
     }
 }
 
-// The second part.
-pub fn second(e: Edge, u: f64) -> Edge
-    ensures { result ≡ after_cut e u }
+// The last part of a line; the line itself where it is not cut.
+#[tactic(auto, unfolding(crate::specs::Passes::last_part))]
+pub fn second(m: Marks, e: Edge) -> Edge
+    ensures { result ≡ last_part m e }
 {
-    Edge {
-        a: point_at(e, u),
-        b: e.b,
-    }
+    let a = match m.cut {
+        None => e.a,
+        Some(u) => point_at(e, u),
+    };
+    Edge { a, b: e.b }
 }

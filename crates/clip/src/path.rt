@@ -84,9 +84,9 @@ fn step(out: &mut [f64], side: HalfPlane, e: Edge, s: State) -> State
     let m = parts::marked(side, e);
     match m.cut {
         None => follow(out, s, e, m.start_kept),
-        Some(u) => {
-            let a = follow(out, s, parts::first(e, u), m.start_kept);
-            follow(out, a, parts::second(e, u), m.end_kept)
+        Some(_) => {
+            let a = follow(out, s, parts::first(m, e), m.start_kept);
+            follow(out, a, parts::second(m, e), m.end_kept)
         }
     }
 }

@@ -52,7 +52,7 @@ pub fn first_pass(lines: &[f64], s: HalfPlane) -> FirstPass
     for i in 0..n {
         let m = marks_at(lines, 4 * i, s);
         if comes_in(before, m) {
-            return FirstPass::StartsAt(i);
+            return FirstPass::StartsAt { start: i, kept };
         }
         before = m.end_kept;
     }

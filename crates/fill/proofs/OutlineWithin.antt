@@ -22,7 +22,8 @@ use Rattle.clip.specs.declared.HalfPlane.{HalfPlane}
 use Rattle.clip.specs.Clip.{in_half_plane, clip_of, KeptWhole, KeepsAll}
 use Rattle.clip.proofs.KeepsAllLaws.{outline_whole, whole_adds_none, whole_keeps_all}
 use Rattle.fill.specs.Fill.{low_x_of, high_x_of, low_y_of, high_y_of, clip1, clip2, clip3, clip4, xdy_of, fill_of, long_of}
-use Rattle.fill.specs.Answers.{half_of, fill_tested, filled, filled_outcome, fill_outcome}
+use Rattle.clip.specs.Lent.{half_of}
+use Rattle.fill.specs.Answers.{fill_tested, filled, filled_outcome, fill_outcome}
 use Rattle.fill.specs.Within.{WithinCell, AllHandOn}
 use Rattle.fill.proofs.TestedLaws.{fill_passed, tested_numbers, tested_box}
 

@@ -16,7 +16,8 @@ use Rattle.accept.specs.declared.Refusal.TheVariants.{BadBox, ShortBuffer}
 use Rattle.accept.specs.Refusals.{all_passed, ◌refusing◌when◌, outline_tested}
 use Rattle.accept.proofs.TestLaws.{refusing_passed, accepted_field}
 use Rattle.clip.specs.Bounded.{FieldNumbers}
-use Rattle.fill.specs.Answers.{half_of, fill_tested}
+use Rattle.clip.specs.Lent.{half_of}
+use Rattle.fill.specs.Answers.{fill_tested}
 
 -- the outline is accepted, the cell fits, and a half has room for the outline's edges
 pub record FillPassed (v : List Float) (c : Bounds) (room : ℕ) : Type 0 where

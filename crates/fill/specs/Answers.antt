@@ -1,5 +1,5 @@
 -- A call for the fill of a cell: its tests in document 01's order, and what it leaves. Definitions only.
-use Rattle.std.specs.Prelude.{not, cond, List, ℕ, ◌*◌, ◌/◌, ltb, length, Ok, Err, Float}
+use Rattle.std.specs.Prelude.{not, cond, List, ℕ, ◌*◌, ltb, length, Ok, Err, Float}
 use Rattle.number.specs.Exact.{zeroᶠ}
 use Rattle.boundary.specs.Boxes.{box_fits}
 use Rattle.boundary.specs.declared.Edge.{Edge}
@@ -9,11 +9,8 @@ use Rattle.accept.specs.declared.Refusal.TheVariants.{BadBox, ShortBuffer, LongL
 use Rattle.accept.specs.Refusals.{Answer, Test, ◌refusing◌when◌, given, outline_tested}
 use Rattle.accept.specs.Answers.{measure_fields, Outcome, refused_with, in_fields, Fields}
 use Rattle.lists.specs.Lists.{at_front, zeros}
+use Rattle.clip.specs.Lent.{half_of}
 use Rattle.fill.specs.Fill.{fill_of, long_of}
-
--- the pieces of a half, of four numbers each: the most that fit twice into a buffer of `room` numbers
-abbrev pub half_of : ℕ → ℕ
-half_of room = room / 8
 
 -- the tests of an outline, a cell and a buffer of `room` numbers: a half has at least one piece per vertex
 unfoldable pub fill_tested : List Float → Bounds → ℕ → Test

@@ -1,6 +1,6 @@
 // The lines that are clipped: the outline's edges, but for those between vertices that stand outside one bound
 // of x without a break, which are drawn as one line. The first two clips give the same of it.
-ghost use Rattle.std.specs.Prelude.{◌≡◌, false, ℕ, ◌<◌, ◌≤◌};
+ghost use Rattle.std.specs.Prelude.{◌≡◌, false, ℕ, ◌*◌, ◌<◌, ◌≤◌, drop};
 ghost use Rattle.boundary.specs.Outline.{count, vertex_at, edges};
 ghost use Rattle.clip.specs.Clip.{in_half_plane};
 ghost use Rattle.clip.specs.Lent.{room_of, lines_from};
@@ -51,13 +51,16 @@ fn chord(v: &[f64], i: usize, low: HalfPlane, high: HalfPlane) -> Chord
     }
 }
 
-// Writes the chords to the front of a list. The loop is no `for`: a chord may go on by many vertices.
+// Writes the chords to the front of a list, and nothing past the places of the outline's own lines. The loop is no
+// `for`: a chord may go on by many vertices.
 pub fn write_chords(v: &[f64], low: HalfPlane, high: HalfPlane, out: &mut [f64]) -> Written
     requires { (count v.now ≤ room_of out.old) × StripOf low high v.now }
     ensures { (result.n ≤ count v.now) × (result.beyond ≤ count v.now)
-        × Shortened low high result.beyond (edges v.now) (lines_from out.new 0 0 result.n) }
+        × Shortened low high result.beyond (edges v.now) (lines_from out.new 0 0 result.n)
+        × (drop (4 * count v.now) out.new ≡ drop (4 * count v.now) out.old) }
 {
     let n = v.len() / 2;
+    let front = &mut out[..4 * n];
     let mut at = 0;
     let mut beyond = 0;
     let mut i = 0;
@@ -68,7 +71,7 @@ pub fn write_chords(v: &[f64], low: HalfPlane, high: HalfPlane, out: &mut [f64])
             a: vertex_at(v, i),
             b: vertex_at(v, next(to - 1, n)),
         };
-        at = clip::path::emit(out, at, e, true);
+        at = clip::path::emit(front, at, e, true);
         beyond += c.beyond;
         i = to;
     }

@@ -35,15 +35,15 @@ pub retrace-requires : goal.retrace-requires
 retrace-requires c =
     let a = c.args in
     let l = half_fits a.w.now (half_in a.w.now) a.c.n _ a.c.second (omega arith) c.requires.1 c.place-from.ensures in
-    (c.requires.1, found_below a.w.now c.place-from.result a.c.n l a.s c.requires.0 _ (sym c.first_pass.ensures ∙ c.in-StartsAt.is))
+    (c.requires.1, found_below a.w.now c.place-from.result a.c.n l a.s c.requires.0 _ _ (sym c.first_pass.ensures ∙ c.in-StartsAt.is))
 
 pub returns-in-StartsAt : goal.returns-in-StartsAt
 returns-in-StartsAt c =
     let a = c.args in
     let e = sym c.first_pass.ensures ∙ c.in-StartsAt.is in
     let l = half_fits a.w.now (half_in a.w.now) a.c.n _ a.c.second (omega arith) c.requires.1 c.place-from.ensures in
-    let d = rw c.place-from.ensures at (found_dropped a.w.now c.place-from.result a.c.n l a.s c.requires.0 _ e) in
-    let t = rw (← (rw c.place-from.ensures at (found_traced a.w.now c.place-from.result a.c.n l a.s c.requires.0 _ e))) at c.retrace.ensures.1 in
+    let d = rw c.place-from.ensures at (found_dropped a.w.now c.place-from.result a.c.n l a.s c.requires.0 _ _ e) in
+    let t = rw (← (rw c.place-from.ensures at (found_traced a.w.now c.place-from.result a.c.n l a.s c.requires.0 _ _ e))) at c.retrace.ensures.1 in
     record {
       same = c.retrace.auto.w;
       rest = c.retrace.ensures.0;

@@ -3,7 +3,7 @@ use Rattle.std.proofs.Common.{◌-◌, Bool, cond, sym, ap, ◌∙◌, arith}
 use native.Mathlib.Nat.{add-zero}
 use Rattle.lists.proofs.RunLaws.{length_run}
 use Rattle.clip.specs.declared.Marks.{Marks}
-use Rattle.clip.specs.declared.FirstPass.TheVariants.{AllKept, NoneKept}
+use Rattle.clip.specs.declared.FirstPass.TheVariants.{StartsAt, AllKept, NoneKept}
 use Rattle.clip.specs.Passes.{marks_of}
 use Rattle.clip.specs.Lent.{room_of, line_in}
 use Rattle.clip.proofs.LentLaws.{first_line}
@@ -16,7 +16,8 @@ returns-then-comes_in c =
     let n = room_of a.lines.now in
     let z = start_here a.s (line_in a.lines.now 0) c.loop-i.before c.loop-i.i n c.marks_at-m.result c.loop-i-test.true (c.marks_at-m.ensures ∙ ap (marks_of c.args.s) (first_line c.args.lines.now c.loop-i.i)) (sym c.comes_in.ensures ∙ c.if-comes_in.true) in
     let j = sym c.loop-i.invariant ∙ rw z (add-zero _) in
-    tells_start _ _ _ c.loop-i.i j (rw length_run c.loop-i-test.true)
+    let k = ap (λ (m : Marks). m.end_kept) (c.marks_at-last.ensures ∙ ap (marks_of a.s) (first_line a.lines.now (n - 1))) in
+    ap (StartsAt c.loop-i.i) k ∙ tells_start _ _ _ c.loop-i.i j (rw length_run c.loop-i-test.true)
 
 pub loop-i-preserved : goal.loop-i-preserved
 loop-i-preserved c = sym (start_later c.args.s (line_in c.args.lines.now 0) c.loop-i.before c.loop-i.i (room_of c.args.lines.now) c.marks_at-m.result c.loop-i-test.true (c.marks_at-m.ensures ∙ ap (marks_of c.args.s) (first_line c.args.lines.now c.loop-i.i)) (sym c.comes_in.ensures ∙ c.if-comes_in.false)) ∙ c.loop-i.invariant

@@ -6,7 +6,7 @@ use lib.ListN.{length}
 use lib.Ieee.{of_bits}
 use Rattle.number.specs.Exact.{zeroᶠ}
 use Rattle.lists.proofs.FrontLaws.{zeros_past}
-use Rattle.fill.specs.Answers.{half_of}
+use Rattle.clip.specs.Lent.{half_of}
 use Rattle.fill.proofs.cell.fill_in.Goals as goal
 
 pub fill_by-answer-requires : goal.fill_by-answer-requires

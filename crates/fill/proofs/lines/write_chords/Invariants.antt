@@ -9,7 +9,7 @@ use Rattle.fill.proofs.lines.write_chords.Given as goal
 
 abbrev pub invariant-loop-i : goal.invariant-loop-i
 invariant-loop-i l = (l.i ≤ count l.v) × (l.at ≤ l.i) × (l.beyond ≤ l.i)
-    × Shortened l.low l.high l.beyond (edges l.v) (lines_from l.out 0 0 l.at ++ run (edge_at l.v) l.i (count l.v - l.i))
+    × Shortened l.low l.high l.beyond (edges l.v) (lines_from l.front 0 0 l.at ++ run (edge_at l.v) l.i (count l.v - l.i))
 
 abbrev pub decreases-loop-i : goal.decreases-loop-i
 decreases-loop-i l = count l.v - l.i
