@@ -7,7 +7,7 @@ use native.Mathlib.Numerals.{add-one}
 use native.Mathlib.Omega.{arith}
 use Rattle.std.proofs.lemmas.List.{get_or-take}
 use lib.ListN.{length, get_or, set, take, drop, length-append, length-set}
-use lib.Seq.{get_or-set_same, get_or-set_other, get_or-drop}
+use lib.Seq.{get_or-set_same, get_or-set_other, get_or-drop, drop-set-lt}
 use lib.Ieee.{Float, nan}
 use Rattle.boundary.specs.declared.Edge.{Edge}
 use Rattle.lists.proofs.RunLaws.{run_last, run_same, length_run}
@@ -70,6 +70,17 @@ put_other w o j e l =
     ∙ get_or-set_other w2 (o + 2) j e.b.x nan (λ z. omega arith)
     ∙ get_or-set_other w1 (o + 1) j e.a.y nan (λ z. omega arith)
     ∙ get_or-set_other w o j e.a.x nan (λ z. omega arith)
+
+-- what stands after it
+pub put_below : (w : List Float) (o n : ℕ) (e : Edge) → o + 4 ≤ n → drop n (put_at w o e) ≡ drop n w
+put_below w o n e l =
+    let w1 : List Float = set w o e.a.x in
+    let w2 : List Float = set w1 (o + 1) e.a.y in
+    let w3 : List Float = set w2 (o + 2) e.b.x in
+    drop-set-lt n w3 (o + 3) e.b.y (omega arith)
+    ∙ drop-set-lt n w2 (o + 2) e.b.x (omega arith)
+    ∙ drop-set-lt n w1 (o + 1) e.a.y (omega arith)
+    ∙ drop-set-lt n w o e.a.x (omega arith)
 
 line_before : (w : List Float) (to n i : ℕ) (e : Edge) → i < n → line_in (put_at w (to + 4 * n) e) to i ≡ line_in w to i
 line_before w to n i e l =

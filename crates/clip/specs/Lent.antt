@@ -28,6 +28,10 @@ room_of w = length w / 4
 abbrev pub put_at : List Float → ℕ → Edge → List Float
 put_at w o e = set (set (set (set w o e.a.x) (o + 1) e.a.y) (o + 2) e.b.x) (o + 3) e.b.y
 
+-- what stands past the lines that a list has room for stays
+abbrev pub RestKept : (w v : List Float) → Type 0
+RestKept w v = drop (4 * room_of w) v ≡ drop (4 * room_of w) w
+
 -- ---- es has n lines; where that is no more than `room`, they stand in w from `to` on
 pub record Holds (to room : ℕ) (w : List Float) (n : ℕ) (es : List Edge) : Type 0 where
   pub count : length es ≡ n

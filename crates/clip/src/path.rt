@@ -4,7 +4,7 @@ ghost use Rattle.std.specs.Prelude.{◌≡◌, cond, List, ◌++◌, ◌+◌, �
 ghost use Rattle.boundary.specs.declared.Edge.{Edge};
 ghost use Rattle.lists.specs.Lists.{fold};
 ghost use Rattle.clip.specs.Passes.{Path, if_on, joint_to, moved_of, followed, step_of, closed_path, traced};
-ghost use Rattle.clip.specs.Lent.{room_of, lines_from, put_at, Holds, Tracks};
+ghost use Rattle.clip.specs.Lent.{room_of, lines_from, put_at, RestKept, Holds, Tracks};
 
 use crate::{HalfPlane, PathEnds, State, parts, scan};
 use boundary::{Edge, Point, same_point};
@@ -22,7 +22,7 @@ fn put(w: &mut [f64], o: usize, e: Edge)
 // Writes e as line `at`, where `on` is set and there is room; counts it all the same.
 pub fn emit(out: &mut [f64], at: usize, e: Edge, on: bool) -> usize
     requires { at < 9223372036854775808 }
-    ensures { (result ≡ at + cond on 1 0)
+    ensures { (result ≡ at + cond on 1 0) × RestKept out.old out.new
         × ((es : List Edge) → Holds 0 (room_of out.old) out.old at es → Holds 0 (room_of out.old) out.new result (es ++ if_on on e)) }
 {
     if !on {
@@ -38,7 +38,7 @@ pub fn emit(out: &mut [f64], at: usize, e: Edge, on: bool) -> usize
 // Writes the joint from the path's end to q, where one is needed; how many lines the path has then.
 fn join(out: &mut [f64], s: State, q: Point) -> usize
     requires { s.at < 9223372036854775808 }
-    ensures { (result ≤ s.at + 1)
+    ensures { (result ≤ s.at + 1) × RestKept out.old out.new
         × ((es : List Edge) → Holds 0 (room_of out.old) out.old s.at es → Holds 0 (room_of out.old) out.new result (es ++ joint_to s.ends q)) }
 {
     match s.ends {
@@ -61,7 +61,7 @@ fn moved(ends: Option<PathEnds>, e: Edge) -> PathEnds
 // Writes a part that is kept, after the joint to it.
 fn follow(out: &mut [f64], s: State, e: Edge, kept: bool) -> State
     requires { s.at < 6917529027641081856 }
-    ensures { (result.at ≤ s.at + 2)
+    ensures { (result.at ≤ s.at + 2) × RestKept out.old out.new
         × ((t : Path) → Tracks 0 (room_of out.old) out.old s t → Tracks 0 (room_of out.old) out.new result (followed t e kept)) }
 {
     if !kept {
@@ -78,7 +78,7 @@ fn follow(out: &mut [f64], s: State, e: Edge, kept: bool) -> State
 // Writes the parts of a line.
 fn step(out: &mut [f64], side: HalfPlane, e: Edge, s: State) -> State
     requires { s.at < 4611686018427387904 }
-    ensures { (result.at ≤ s.at + 4)
+    ensures { (result.at ≤ s.at + 4) × RestKept out.old out.new
         × ((t : Path) → Tracks 0 (room_of out.old) out.old s t → Tracks 0 (room_of out.old) out.new result (step_of side t e)) }
 {
     let m = parts::marked(side, e);
@@ -94,7 +94,7 @@ fn step(out: &mut [f64], side: HalfPlane, e: Edge, s: State) -> State
 // Writes the parts of the lines, from line `start` on and going round.
 fn run(lines: &[f64], side: HalfPlane, out: &mut [f64], start: usize, s: State) -> State
     requires { (start < room_of lines.now) × (s.at ≤ 4 * room_of lines.now) }
-    ensures { (result.at ≤ s.at + 4 * room_of lines.now)
+    ensures { (result.at ≤ s.at + 4 * room_of lines.now) × RestKept out.old out.new
         × ((t : Path) → Tracks 0 (room_of out.old) out.old s t → Tracks 0 (room_of out.old) out.new result (fold (step_of side) (fold (step_of side) t (lines_from lines.now 0 start (room_of lines.now - start))) (lines_from lines.now 0 0 start))) }
 {
     let n = lines.len() / 4;
@@ -116,7 +116,7 @@ fn empty() -> State
 // Writes the joint from the path's end to its start, where one is needed; how many lines the path has.
 fn close(out: &mut [f64], s: State) -> usize
     requires { s.at < 9223372036854775808 }
-    ensures { (t : Path) → Tracks 0 (room_of out.old) out.old s t → Holds 0 (room_of out.old) out.new result (closed_path t) }
+    ensures { RestKept out.old out.new × ((t : Path) → Tracks 0 (room_of out.old) out.old s t → Holds 0 (room_of out.old) out.new result (closed_path t)) }
 {
     match s.ends {
         None => s.at,
@@ -127,7 +127,8 @@ fn close(out: &mut [f64], s: State) -> usize
 // Writes the path of the lines, from line `start` on and going round; how many lines it has.
 pub fn trace(lines: &[f64], side: HalfPlane, out: &mut [f64], start: usize) -> usize
     requires { start < room_of lines.now }
-    ensures { Holds 0 (room_of out.old) out.new result (traced side (lines_from lines.now 0 start (room_of lines.now - start)) (lines_from lines.now 0 0 start)) }
+    ensures { RestKept out.old out.new
+        × Holds 0 (room_of out.old) out.new result (traced side (lines_from lines.now 0 start (room_of lines.now - start)) (lines_from lines.now 0 0 start)) }
 {
     let b = run(lines, side, out, start, empty());
     close(out, b)

@@ -19,7 +19,7 @@ returns-then-c c =
     let r = room_taken n ys (omega (arith, q.front_len)) in
     let one = from_second half a.w.now xs rest ys zs p.value q.value p.front_len q.front_len n a.start (n - a.start) (omega arith) (omega arith) in
     let two = from_second half a.w.now xs rest ys zs p.value q.value p.front_len q.front_len n 0 a.start (omega arith) (omega arith) in
-    let h = in_first half a.w.now xs rest ys zs p.value q.value p.front_len q.front_len out c.trace.result (c.trace.auto.out ∙ p.front_len) c.trace.ensures in
+    let h = in_first half a.w.now xs rest ys zs p.value q.value p.front_len q.front_len out c.trace.result (c.trace.auto.out ∙ p.front_len) c.trace.ensures.1 in
     rw c.if-c.true (past_halves half a.w.now xs rest ys zs p.value q.value p.front_len q.front_len out ys (c.trace.auto.out ∙ p.front_len) q.front_len, rw (r, one, two) at h)
 
 pub returns-else-c : goal.returns-else-c
@@ -37,5 +37,5 @@ returns-else-c c =
     let r = room_taken n xs (omega (arith, p.front_len)) in
     let one = from_first half a.w.now xs rest ys zs p.value q.value p.front_len q.front_len n a.start (n - a.start) (omega arith) (omega arith) in
     let two = from_first half a.w.now xs rest ys zs p.value q.value p.front_len q.front_len n 0 a.start (omega arith) (omega arith) in
-    let h = in_second half a.w.now xs rest ys zs p.value q.value p.front_len q.front_len out c.trace-else-c.result (c.trace-else-c.auto.out ∙ q.front_len) c.trace-else-c.ensures in
+    let h = in_second half a.w.now xs rest ys zs p.value q.value p.front_len q.front_len out c.trace-else-c.result (c.trace-else-c.auto.out ∙ q.front_len) c.trace-else-c.ensures.1 in
     rw c.if-c.false (past_halves half a.w.now xs rest ys zs p.value q.value p.front_len q.front_len xs out p.front_len (c.trace-else-c.auto.out ∙ q.front_len), rw (r, one, two) at h)

@@ -6,4 +6,4 @@ use Rattle.clip.proofs.path.join.Goals as goal
 pub returns-in-Some : goal.returns-in-Some
 returns-in-Some c =
     let p = c.in-Some.p in
-    (omega (arith, c.emit.ensures.0, one_le (not c.same_point.result)), λ es h. rw c.in-Some.is (rw (c.same_point.ensures, if_joint p.last c.args.q) at (c.emit.ensures.1 es h)))
+    (omega (arith, c.emit.ensures.0, one_le (not c.same_point.result)), c.emit.ensures.1, λ es h. rw c.in-Some.is (rw (c.same_point.ensures, if_joint p.last c.args.q) at (c.emit.ensures.2 es h)))

@@ -1,5 +1,5 @@
 -- `clip::path::step` meets its contract: a line that is not cut is its own first part, and has no second. Assumes nothing.
-use Rattle.std.proofs.Common.{◌≡◌, Some, None, arith}
+use Rattle.std.proofs.Common.{◌≡◌, ◌∙◌, Some, None, arith}
 use lib.Ieee.{Float}
 use Rattle.boundary.specs.declared.Edge.{Edge}
 use Rattle.clip.specs.declared.HalfPlane.{HalfPlane}
@@ -21,11 +21,11 @@ pub returns-in-None : goal.returns-in-None
 returns-in-None c =
     let m = c.marked-m in
     let a = c.args in
-    (omega (arith, c.follow.ensures.0), λ t h. rw (uncut_step a.side t a.e m.result m.ensures c.in-None.is) (c.follow.ensures.1 t h))
+    (omega (arith, c.follow.ensures.0), c.follow.ensures.1, λ t h. rw (uncut_step a.side t a.e m.result m.ensures c.in-None.is) (c.follow.ensures.2 t h))
 
 pub returns-in-Some : goal.returns-in-Some
 returns-in-Some c =
     let m = c.marked-m in
     let a = c.args in
-    let next = rw c.follow-a.auto.out at c.follow-in-Some.ensures.1 in
-    (omega (arith, c.follow-in-Some.ensures.0, c.follow-a.ensures.0), λ t h. rw (cut_step a.side t a.e m.result m.ensures c.in-Some.is, ← c.second.ensures, ← c.first.ensures) (next _ (c.follow-a.ensures.1 t h)))
+    let next = rw c.follow-a.auto.out at c.follow-in-Some.ensures in
+    (omega (arith, c.follow-in-Some.ensures.0, c.follow-a.ensures.0), next.1 ∙ c.follow-a.ensures.1, λ t h. rw (cut_step a.side t a.e m.result m.ensures c.in-Some.is, ← c.second.ensures, ← c.first.ensures) (next.2 _ (c.follow-a.ensures.2 t h)))
