@@ -24,3 +24,5 @@ pub mod ShortenedLaws
 pub mod StripLaws
 -- A list cut into two halves and the rest.
 pub mod HalvesLaws
+-- Lines that stand apart from a part of a list that has changed.
+pub mod BesideLaws

@@ -13,17 +13,19 @@ use Rattle.lists.proofs.RunLaws.{length_run, run_at}
 use Rattle.lists.specs.Lists.{run, at_front}
 use Rattle.accept.specs.declared.Refusal.{Refusal}
 use Rattle.accept.specs.declared.Refusal.TheVariants.{ShortBuffer}
-use Rattle.accept.specs.Refusals.{Test, all_passed, ◌refusing◌when◌}
+use Rattle.accept.specs.Answers.{in_fields}
+use Rattle.accept.specs.Refusals.{Answer, Test, all_passed, ◌refusing◌when◌}
 use Rattle.accept.proofs.TestLaws.{refusing_passed}
 use Rattle.nodes.specs.declared.Node.{Node}
 use Rattle.boxes.specs.BoxLists.{box_count}
 use Rattle.tree.specs.Tree.{Tree, index_of, items_of}
 use Rattle.nodes.specs.Layout.{node_of, nodes_of, corners_of, links_of}
 use Rattle.index.specs.Buffer.{IndexBuffer, holding, grown}
-use Rattle.index.specs.Answers.{boxes_tested}
+use Rattle.index.specs.Answers.{boxes_tested, build_fields_of}
+use Rattle.index.specs.declared.TreeSize.{TreeSize}
 use Rattle.index.proofs.GrowLaws.{length_index_items, grown_nodes, grown_lent}
 use Rattle.index.proofs.ReadLaws.{NodeIs, node_is}
-use Rattle.records.specs.Records.{node_in, nodes_tested, NodesLent, recorded, records_outcome}
+use Rattle.records.specs.Records.{node_in, nodes_tested, NodesLent, recorded, records_outcome, nodes_call}
 
 -- ---- the nodes of an index buffer, written one by one
 read_node : (B : List Float) (K : List ℕ) (i : ℕ) (x : Node) → NodeIs B K [] i x → node_in B K i ≡ x
@@ -79,3 +81,10 @@ module _ (v : List Float) (N : List Node) (I : List ℕ) where
       → record { answer = Err r; lent = record { nodes = N; items = I } } ≡ records_outcome v N I
   unfolding records_outcome
   records_refused tested e = rw (← tested, e)
+
+  -- and once its answer is put into the fields
+  pub records_written : {r : Answer TreeSize} {N' : List Node} {I' : List ℕ}
+      → record { answer = r; lent = record { nodes = N'; items = I' } } ≡ records_outcome v N I
+      → record { answer = build_fields_of r; lent = record { nodes = N'; items = I' } } ≡ nodes_call v N I
+  unfolding nodes_call
+  records_written e = ap (in_fields build_fields_of) e

@@ -1,11 +1,11 @@
 -- Signed numbers of four bytes: how large they are, as numbers of 32 and 64 bits, and where they stand. Assumes nothing.
 use mathlib.Core.Path.{◌≡◌, refl, sym, ap, ◌∙◌}
-use mathlib.Core.Bool.{Bool, true, false, ◌||◌, cond, or-false}
+use mathlib.Core.Bool.{Bool, true, false, not, ◌&&◌, ◌||◌, cond, or-false, and-true}
 use mathlib.Core.List.{List, [], ◌∷◌}
 use Prim.Native.Nat.{ℕ, zero, suc, ◌+◌, ◌*◌, ◌<◌, ◌≤◌}
 use native.Mathlib.Omega.{arith}
 use borrow.Author.Tests.{lt-ltb, le-ltb, ltb-true, ltb-false}
-use lib.Dec.{ltb}
+use lib.Dec.{eqb, ltb}
 use lib.IntN.{ℤ, pos, negsuc, ◌-ℤ◌, nat_abs}
 use mir.Syntax.{w32, w64}
 use mir.Val.{SFits, to_z, of_z}
@@ -17,7 +17,7 @@ use Rattle.std.proofs.Math.Facts.{sfits_to_z}
 use Rattle.lists.specs.Lists.{run}
 use Rattle.lists.proofs.RunLaws.{run_later, run_same}
 use Rattle.stream.specs.Bytes.{signed_quad, steps_in, step_at}
-use Rattle.stream.specs.Records.{far_step, SameStep}
+use Rattle.stream.specs.Records.{far_step, SameStep, same_bytes, other_unit}
 
 -- ---- as numbers of 64 bits
 small_fits : (z : ℤ) → nat_abs z ≤ 4294967296 → SFits w64 z
@@ -99,3 +99,19 @@ far_is (negsuc n) = go (ltb 1048575 n) refl
     go : (b : Bool) → ltb 1048575 n ≡ b → ltb 1048575 n ≡ ltb 1048576 (suc n)
     go true e = e ∙ sym (lt-ltb 1048576 (suc n) (let l = ltb-true 1048575 n e in omega arith))
     go false e = e ∙ sym (le-ltb 1048576 (suc n) (let l = ltb-false 1048575 n e in omega arith))
+
+-- ---- the unit, byte by byte
+abbrev unit_bytes : (ℕ → ℕ) → Bool
+unit_bytes b = eqb (b 0) 0x3E && (eqb (b 1) 0x40 && (eqb (b 2) 0 && (eqb (b 3) 0 && (eqb (b 4) 0 && (eqb (b 5) 0 && (eqb (b 6) 0 && eqb (b 7) 0))))))
+
+unit_bytes_lem : (x : List ℕ) → 8 ≤ length x → not (unit_bytes (λ i. get_or x i 0)) ≡ other_unit x
+unfolding other_unit same_bytes
+unit_bytes_lem (a ∷ b ∷ c ∷ d ∷ e ∷ f ∷ g ∷ h ∷ x) l = rw (and-true (eqb h 0))
+unit_bytes_lem [] l = absurd (omega (arith, l))
+unit_bytes_lem (a ∷ []) l = absurd (omega (arith, l))
+unit_bytes_lem (a ∷ b ∷ []) l = absurd (omega (arith, l))
+unit_bytes_lem (a ∷ b ∷ c ∷ []) l = absurd (omega (arith, l))
+unit_bytes_lem (a ∷ b ∷ c ∷ d ∷ []) l = absurd (omega (arith, l))
+unit_bytes_lem (a ∷ b ∷ c ∷ d ∷ e ∷ []) l = absurd (omega (arith, l))
+unit_bytes_lem (a ∷ b ∷ c ∷ d ∷ e ∷ f ∷ []) l = absurd (omega (arith, l))
+unit_bytes_lem (a ∷ b ∷ c ∷ d ∷ e ∷ f ∷ g ∷ []) l = absurd (omega (arith, l))
