@@ -50,12 +50,7 @@ pub fn build<W: Write>(to: &mut W, v: &[f64], index: &mut Index) -> io::Result<(
     writeln!(to, "{number:x} {nodes:x} {items:x}{corners}{links}{list}")
 }
 
-pub fn meeting<W: Write>(
-    to: &mut W,
-    v: &[f64],
-    cell: Cell,
-    index: &mut Index,
-) -> io::Result<()> {
+pub fn meeting<W: Write>(to: &mut W, v: &[f64], cell: Cell, index: &mut Index) -> io::Result<()> {
     index.fill();
     let mut list = [1; 1024];
     let mut count = 9;

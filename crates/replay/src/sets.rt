@@ -8,7 +8,13 @@ use sample::floats::Bits;
 use std::io;
 use std::io::Write;
 
-pub fn any_at<W: Write>(to: &mut W, v: &[f64], counts: &[u32], p: Point, index: &mut Index) -> io::Result<()> {
+pub fn any_at<W: Write>(
+    to: &mut W,
+    v: &[f64],
+    counts: &[u32],
+    p: Point,
+    index: &mut Index,
+) -> io::Result<()> {
     index.fill();
     let mut any = 9;
     let number = viskunor::sets::vk_set_any_at(
@@ -24,7 +30,13 @@ pub fn any_at<W: Write>(to: &mut W, v: &[f64], counts: &[u32], p: Point, index: 
     writeln!(to, "{number:x} {any:x}")
 }
 
-pub fn nearest<W: Write>(to: &mut W, v: &[f64], counts: &[u32], p: Point, index: &mut Index) -> io::Result<()> {
+pub fn nearest<W: Write>(
+    to: &mut W,
+    v: &[f64],
+    counts: &[u32],
+    p: Point,
+    index: &mut Index,
+) -> io::Result<()> {
     index.fill();
     let mut found = 9;
     let mut outline = 9;
