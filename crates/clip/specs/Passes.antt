@@ -53,12 +53,12 @@ before_cut e u = record { a = point_along e zeroᶠ; b = point_along e u }
 abbrev pub after_cut : Edge → Float → Edge
 after_cut e u = record { a = point_along e u; b = e.b }
 
--- a line that is not cut is its own first part, and its own last
+-- a line that is not cut is its own first part; its last begins where it starts
 unfoldable pub first_part : Marks → Edge → Edge
 first_part m e = elim m.cut [ None ↦ e | Some u ↦ before_cut e u ]
 
 unfoldable pub last_part : Marks → Edge → Edge
-last_part m e = elim m.cut [ None ↦ e | Some u ↦ after_cut e u ]
+last_part m e = elim m.cut [ None ↦ after_cut e zeroᶠ | Some u ↦ after_cut e u ]
 
 -- ---- the first pass
 -- a line comes in: a part of it is kept, and the part before that one is not

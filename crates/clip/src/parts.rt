@@ -110,14 +110,17 @@ pub fn first(m: Marks, e: Edge) -> Edge
     }
 }
 
-// The last part of a line; the line itself where it is not cut.
+// The last part of a line; of one that is not cut, from its start.
 #[tactic(auto, unfolding(crate::specs::Passes::last_part))]
 pub fn second(m: Marks, e: Edge) -> Edge
     ensures { result ≡ last_part m e }
 {
-    let a = match m.cut {
-        None => e.a,
-        Some(u) => point_at(e, u),
+    let u = match m.cut {
+        None => 0.0,
+        Some(u) => u,
     };
-    Edge { a, b: e.b }
+    Edge {
+        a: point_at(e, u),
+        b: e.b,
+    }
 }

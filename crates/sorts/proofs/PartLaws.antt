@@ -172,14 +172,16 @@ dealt_all p s₀ t₀ s t a d =
     (one, d.failed ∙ ap (others p) all, sym (length-take-le a s (omega arith)) ∙ ap length one)
 
 pub parted_is : (p : ℕ → Bool) (s₀ t₀ s t Y : List ℕ) (a : ℕ) → Dealt p s₀ t₀ s t a (length s₀) → length s₀ ≤ length t₀
-    → Y ≡ take (length s₀ - a) t
+    → Y ≡ take (length s₀ - a) t ++ drop (length (take (length s₀ - a) t)) (take (length s - a) (drop a s))
     → (take a s ++ (Y ++ drop (length s - a) (drop a s)) ≡ keep p s₀ ++ others p s₀) × (a ≡ length (keep p s₀))
 parted_is p s₀ t₀ s t Y a d fit e =
     let q = dealt_all p s₀ t₀ s t a d in
-    let f = d.fewer in let l = d.long in
+    let f = d.fewer in let l = d.long in let r = d.room in
     let k = length-drop a s in
+    let n = length-take-le (length s₀ - a) t (omega arith) in
+    let gone : drop (length (take (length s₀ - a) t)) (take (length s - a) (drop a s)) ≡ [] = drop_of_length-le (take (length s - a) (drop a s)) {i = length (take (length s₀ - a) t)} (let u = length-take-le (length s - a) (drop a s) (omega arith) in omega arith) in
     let past : drop (length s - a) (drop a s) ≡ [] = drop_of_length-le (drop a s) {i = length s - a} (omega arith) in
-    let y : Y ≡ others p s₀ = e ∙ q.1 in
+    let y : Y ≡ others p s₀ = e ∙ rw gone (append-nil (take (length s₀ - a) t) ∙ q.1) in
     (rw (y, past, q.0) (ap (λ (l : List ℕ). keep p s₀ ++ l) (append-nil (others p s₀))), q.2)
 
 -- ---- a total order

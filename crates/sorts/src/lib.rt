@@ -1,7 +1,7 @@
 // Item numbers sorted by a key, and parted by a pivot.
 #![tactic(auto)]
 
-ghost use Rattle.std.specs.Prelude.{◌≡◌, not, ◌≤◌, length};
+ghost use Rattle.std.specs.Prelude.{◌≡◌, ◌++◌, not, ◌≤◌, length, drop};
 ghost use Rattle.std.specs.Ordering.{is_lt};
 ghost use Rattle.sorts.specs.Sort.{sort, parted_by, Dealt};
 ghost use Rattle.sorts.specs.Keys.{total_less, precedes_by, precedes, ahead, key_in};
@@ -110,10 +110,11 @@ fn dealt(keys: &[f64], pivot: Pivot, s: &mut [u32], t: &mut [u32]) -> usize
     a
 }
 
-// t becomes s. (std's `copy_from_slice` calls `memmove`, a name that each host of the archive would then have to give.)
+// The first members of t become s. (std's `copy_from_slice` calls `memmove`, a name that each host of the archive would
+// then have to give.)
 fn copied(s: &[u32], t: &mut [u32])
-    requires { length s.now ≡ length t.old }
-    ensures { t.new ≡ s.now }
+    requires { length s.now ≤ length t.old }
+    ensures { t.new ≡ s.now ++ drop (length s.now) t.old }
 {
     for i in 0..s.len() {
         t[i] = s[i];

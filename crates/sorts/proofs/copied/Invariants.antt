@@ -3,4 +3,4 @@ use Rattle.sorts.proofs.Lists.{Copying}
 use Rattle.sorts.proofs.copied.Given as goal
 
 abbrev pub invariant-loop-i : goal.invariant-loop-i
-invariant-loop-i l = Copying l.s l.t l.i
+invariant-loop-i l = Copying l.s l.initial.t l.t l.i
